@@ -1,0 +1,33 @@
+-- "A refusal writes nothing": whatever a call was to write, a refusal leaves the lent memory as it was.
+use mathlib.Core.Path.{_≡_, refl}
+use mathlib.Core.Bool.{Bool, true, false, _&&_}
+use mathlib.Core.List.{List}
+use Prim.Native.Nat.{ℕ}
+use native.Mathlib.Omega.{arith}
+use lib.ListN.{length}
+use lib.Dec.{leb}
+use Rattle.eon_spec.specs.declared.Refusal.{Refusal}
+use Rattle.eon_spec.specs.Calls.{Outcome, done, refusedWith, fill, fillBoth}
+
+answers-not : {A B : Type 0} (a : A) (r : Refusal) → done a ≡ refusedWith r → B
+answers-not a r e = absurd (let z : _≡_ {A = ℕ} 0 1 = cc in omega arith)
+
+pub fill-keeps : {A : Type 0} (old : List ℕ) (x : Outcome (A × List ℕ)) (r : Refusal) → (fill old x) .answer ≡ refusedWith r → (fill old x) .memory ≡ old
+unfolding fill
+fill-keeps old (refusedWith q) r e = refl
+fill-keeps {A} old (done (a, new)) r e = go (leb (length new) (length old)) refl e
+  where
+    go : (b : Bool) → leb (length new) (length old) ≡ b → (fill old (done (a, new))) .answer ≡ refusedWith r → (fill old (done (a, new))) .memory ≡ old
+    go true p e = answers-not a r (rw (p, fill) at e)
+    go false p e = rw (p, fill) refl
+
+pub fill-both-keeps : (table out : List ℕ) (x : Outcome (List ℕ × List ℕ)) (r : Refusal) → (fillBoth table out x) .answer ≡ refusedWith r
+    → ((fillBoth table out x) .table ≡ table) × ((fillBoth table out x) .out ≡ out)
+unfolding fillBoth
+fill-both-keeps table out (refusedWith q) r e = (refl, refl)
+fill-both-keeps table out (done (w, b)) r e = go (leb (length w) (length table) && leb (length b) (length out)) refl e
+  where
+    go : (z : Bool) → leb (length w) (length table) && leb (length b) (length out) ≡ z → (fillBoth table out (done (w, b))) .answer ≡ refusedWith r
+        → ((fillBoth table out (done (w, b))) .table ≡ table) × ((fillBoth table out (done (w, b))) .out ≡ out)
+    go true p e = answers-not (length b) r (rw (p, fillBoth) at e)
+    go false p e = rw (p, fillBoth) (refl, refl)

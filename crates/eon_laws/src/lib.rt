@@ -1,0 +1,1 @@
+// Laws about the definitions of eon_spec; they stand in proofs/.

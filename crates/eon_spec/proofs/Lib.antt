@@ -1,0 +1,4 @@
+pub mod Computing
+pub mod Sheets
+pub mod Calls
+pub mod Original

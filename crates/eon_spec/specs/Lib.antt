@@ -1,0 +1,11 @@
+pub mod Base
+pub mod Utf8
+pub mod Regex
+pub mod Token
+pub mod Tree
+pub mod Parse
+pub mod Records
+pub mod Layout
+pub mod Unquote
+pub mod Calls
+pub mod Runs
