@@ -1,0 +1,101 @@
+-- The characters of a text without carriage returns, one by one.
+use mathlib.Core.Path.{_≡_, refl, sym, ap, _∙_}
+use mathlib.Core.Bool.{true, false}
+use mathlib.Core.List.{List, [], _∷_, map}
+use Prim.Native.Nat.{ℕ, zero, suc, _+_, _-_, _≤_, _<_}
+use native.Mathlib.Omega.{arith}
+use native.Mathlib.Decide.{decLe}
+use borrow.Author.Tests.{eq-eqb, ne-eqb}
+use lib.Dec.{eqb}
+use lib.ListN.{length, drop, take, replicate, drop-of-length-le}
+use lib.Seq.{drop-drop, drop-nil, take-nil}
+use Rattle.eon_spec.specs.Base.{elem, eqList}
+use Rattle.eon_spec.specs.Utf8.{charLen, charsFrom, chars, decode, codePoint, Character}
+use Rattle.eon_spec.specs.Unquote.{without}
+use Rattle.eon_strings.specs.Views.{kept, NextIs}
+use Rattle.eon_strings.proofs.Bytes.{and-true, and-false, or-true, or-false}
+
+chars-skip : (k : ℕ) (s : List ℕ) → charsFrom k s ≡ charsFrom 0 (drop k s)
+unfolding charsFrom
+chars-skip zero s = refl
+chars-skip (suc k) [] = refl
+chars-skip (suc k) (b ∷ s) = chars-skip k s
+
+chars-on : (k : ℕ) (t : List ℕ) → charLen t ≡ suc k → charsFrom 0 t ≡ take (suc k) t ∷ charsFrom 0 (drop (suc k) t)
+unfolding charsFrom charLen
+chars-on k [] e = absurd (omega arith)
+chars-on k (b ∷ s) e = rw (e, charsFrom) (ap (λ (cs : List Character). (b ∷ take k s) ∷ cs) (chars-skip k s))
+
+chars-off : (t : List ℕ) → charLen t ≡ 0 → charsFrom 0 t ≡ []
+unfolding charsFrom
+chars-off [] e = refl
+chars-off (b ∷ s) e = rw (e, charsFrom)
+
+without-it : (c : ℕ) (u : List ℕ) → c ≡ 13 → without 13 (c ∷ u) ≡ without 13 u
+without-it c u e = rw (eq-eqb c 13 e, without)
+
+without-other : (c : ℕ) (u : List ℕ) → (c ≡ 13 → ⊥) → without 13 (c ∷ u) ≡ c ∷ without 13 u
+without-other c u e = rw (ne-eqb c 13 e, without)
+
+module _ (s : List ℕ) (i : ℕ) where
+  decode-on : (k : ℕ) → suc k ≡ charLen (drop i s) → decode (drop i s) ≡ codePoint (take (suc k) (drop i s)) ∷ decode (drop (i + suc k) s)
+  unfolding decode chars
+  decode-on k e = ap (λ (cs : List Character). map codePoint cs) (chars-on k (drop i s) (sym e)) ∙ rw (drop-drop (suc k) i s)
+
+  pub kept-stop : (n : ℕ) → n ≡ charLen (drop i s) → n ≡ 0 → kept s i ≡ []
+  unfolding kept decode chars
+  kept-stop n e z = ap (λ (cs : List Character). without 13 (map codePoint cs)) (chars-off (drop i s) (sym e ∙ z))
+
+  pub kept-end : length s ≤ i → kept s i ≡ []
+  unfolding kept decode chars charsFrom
+  kept-end h = rw (drop-of-length-le s h)
+
+  pub kept-skip : (n c : ℕ) → n ≡ charLen (drop i s) → (n ≡ 0 → ⊥) → c ≡ codePoint (take n (drop i s)) → c ≡ 13 → kept s i ≡ kept s (i + n)
+  unfolding kept
+  kept-skip zero c e z p q = absurd (z refl)
+  kept-skip (suc k) c e z p q = ap (without 13) (decode-on k e) ∙ without-it (codePoint (take (suc k) (drop i s))) (decode (drop (i + suc k) s)) (sym p ∙ q)
+
+  pub kept-more : (n c : ℕ) → n ≡ charLen (drop i s) → (n ≡ 0 → ⊥) → c ≡ codePoint (take n (drop i s)) → (c ≡ 13 → ⊥) → kept s i ≡ c ∷ kept s (i + n)
+  unfolding kept
+  kept-more zero c e z p q = absurd (z refl)
+  kept-more (suc k) c e z p q =
+      ap (without 13) (decode-on k e ∙ ap (λ (x : ℕ). x ∷ decode (drop (i + suc k) s)) (sym p)) ∙ without-other c (decode (drop (i + suc k) s)) q
+
+  pub next-none : i ≤ length s → kept s i ≡ [] → NextIs s i 0 i
+  next-none h e = record { none-left = λ z. e; one-more = λ n. absurd (n refl); onward = omega arith; inside = h; small = omega arith }
+
+  pub next-one : (c e : ℕ) → i < e → e ≤ length s → c < 0x200000 → kept s i ≡ c ∷ kept s e → NextIs s i c e
+  next-one c e h k l p = record { none-left = λ z. absurd (omega arith); one-more = λ n. p; onward = omega arith; inside = k; small = l }
+
+-- the next m characters
+module _ (s : List ℕ) (i c e n m : ℕ) (x : NextIs s i c e) (l : n ≡ suc m) where
+  pub drop-next : drop n (kept s i) ≡ drop m (kept s e)
+  drop-next = go (decLe e i)
+    where
+      go : Dec (e ≤ i) → drop n (kept s i) ≡ drop m (kept s e)
+      go (yes h) =
+          let y : e ≡ i = omega (arith, x .onward) in
+          let z : kept s i ≡ [] = x .none-left y in
+          rw (l, y, z) (sym (drop-nil m))
+      go (no h) = rw (l, x .one-more λ y. h (omega arith))
+
+  pub elem-next : (e ≡ i → ⊥) → (c ≡ 10 → ⊥) → elem 10 (take n (kept s i)) ≡ elem 10 (take m (kept s e))
+  elem-next h k = rw (l, x .one-more h) (or-false (eqb 10 c) (elem 10 (take m (kept s e))) (ne-eqb 10 c λ y. k (sym y)))
+
+  pub elem-here : (e ≡ i → ⊥) → c ≡ 10 → elem 10 (take n (kept s i)) ≡ true
+  elem-here h k = rw (l, x .one-more h) (or-true (eqb 10 c) (elem 10 (take m (kept s e))) (eq-eqb 10 c (sym k)))
+
+  pub elem-none : e ≡ i → elem 10 (take n (kept s i)) ≡ false
+  elem-none h = rw (x .none-left h, take-nil n)
+
+  pub length-next : (e ≡ i → ⊥) → length (kept s i) ≡ suc (length (kept s e))
+  length-next h = rw (x .one-more h)
+
+  pub quote-next : (q : ℕ) → (e ≡ i → ⊥) → c ≡ q → eqList (take n (kept s i)) (replicate n q) ≡ eqList (take m (kept s e)) (replicate m q)
+  quote-next q h k = rw (l, x .one-more h) (and-true (eqb c q) (eqList (take m (kept s e)) (replicate m q)) (eq-eqb c q k))
+
+  pub quote-other : (q : ℕ) → (e ≡ i → ⊥) → (c ≡ q → ⊥) → eqList (take n (kept s i)) (replicate n q) ≡ false
+  quote-other q h k = rw (l, x .one-more h) (and-false (eqb c q) (eqList (take m (kept s e)) (replicate m q)) (ne-eqb c q k))
+
+  pub quote-none : (q : ℕ) → e ≡ i → eqList (take n (kept s i)) (replicate n q) ≡ false
+  quote-none q h = rw (x .none-left h, take-nil n, l)

@@ -1,0 +1,130 @@
+-- The outcome of the whole call, case by case.
+use mathlib.Core.Path.{_≡_, refl, sym, ap, _∙_, subst}
+use mathlib.Core.Bool.{Bool, true, false}
+use mathlib.Core.List.{List, []}
+use Prim.Native.Nat.{ℕ, _-_, _≤_, _<_}
+use native.Mathlib.Omega.{arith}
+use native.Mathlib.Nat.{zero-add}
+use borrow.Author.Tests.{eq-eqb, ne-eqb, le-leb, lt-leb, lt-ltb, le-ltb}
+use lib.ListN.{length}
+use lib.Seq.{sets-eq}
+use Rattle.eon_spec.specs.Utf8.{encode, isUtf8, wellFormedLen}
+use Rattle.eon_spec.specs.Unquote.{value, fault, unquote, unquoteChars}
+use Rattle.eon_spec.specs.Unquote as unquoting
+use Rattle.eon_spec.specs.declared.Refusal.{Refusal}
+use Rattle.eon_spec.specs.Parse.{refusal}
+use Rattle.eon_spec.specs.Calls.{Outcome, done, refusedWith, After, after, Part, partOf, place, nowhere, checked, fill, written, isPart, opening, handedBack, unescapedOutcome, unquoteCall}
+use Rattle.eon_spec.specs.declared.Which.the-variants.{Quoted, Scratch}
+use Rattle.eon_strings.specs.Views.{kept, Reads, ContentsIs, handed, placedCall}
+use Rattle.eon_strings.specs.declared.Contents.{Contents}
+
+module _ {A : Type 0} (q : List ℕ) (f : List ℕ → Outcome A) where
+  checked-long : 65535 < length q → checked q f ≡ refusedWith (refusal 1 (place 65535))
+  unfolding checked
+  checked-long h = rw (lt-ltb 65535 (length q) h, checked)
+
+  utf8-is : (b : Bool) → isUtf8 q ≡ b → length q ≤ 65535 → checked q f ≡ elim b [ true ↦ f q | false ↦ refusedWith (refusal 2 (place (wellFormedLen q))) ]
+  unfolding checked
+  utf8-is b e h = rw (le-ltb 65535 (length q) h, checked) (rw e)
+
+  checked-bad : length q ≤ 65535 → (wellFormedLen q ≡ length q → ⊥) → checked q f ≡ refusedWith (refusal 2 (place (wellFormedLen q)))
+  unfolding isUtf8
+  checked-bad h n = utf8-is false (ne-eqb (wellFormedLen q) (length q) n) h
+
+  checked-good : length q ≤ 65535 → wellFormedLen q ≡ length q → checked q f ≡ f q
+  unfolding isUtf8
+  checked-good h e = utf8-is true (eq-eqb (wellFormedLen q) (length q) e) h
+
+module _ (q old : List ℕ) where
+  by-check : (o : Outcome (List ℕ)) → (checked q λ t. unescapedOutcome (unquote t)) ≡ o → unquoteCall q old ≡ handed q old o
+  unfolding unquoteCall
+  by-check o e = ap (λ (x : Outcome (List ℕ)). handed q old x) e
+
+  refused : (r : Refusal) → handed q old (refusedWith r) ≡ after (refusedWith r) old
+  unfolding fill
+  refused r = refl
+
+  pub call-long : 65535 < length q → unquoteCall q old ≡ after (refusedWith (refusal 1 (place 65535))) old
+  call-long h = by-check _ (checked-long q (λ t. unescapedOutcome (unquote t)) h) ∙ refused (refusal 1 (place 65535))
+
+  pub call-bad : length q ≤ 65535 → (wellFormedLen q ≡ length q → ⊥) → unquoteCall q old ≡ after (refusedWith (refusal 2 (place (wellFormedLen q)))) old
+  call-bad h n = by-check _ (checked-bad q (λ t. unescapedOutcome (unquote t)) h n) ∙ refused (refusal 2 (place (wellFormedLen q)))
+
+  pub call-good : length q ≤ 65535 → wellFormedLen q ≡ length q → unquoteCall q old ≡ placedCall q old (unquoteChars (kept q 0))
+  unfolding unquote kept
+  call-good h e = by-check _ (checked-good q (λ t. unescapedOutcome (unquote t)) h e)
+
+  pub is-fault : (w : unquoting.Unescaped) (at : ℕ) (l exit : List ℕ) (number len : ℕ) → Reads at l w exit number len → (number ≡ 0 → ⊥) → placedCall q old w ≡ after (refusedWith (nowhere number)) old
+  is-fault (value v) at l exit number len h n = absurd (n (h .0))
+  is-fault (fault k) at l exit number len h n = refused (nowhere k) ∙ ap (λ (x : ℕ). after (refusedWith (nowhere x)) old) (sym (h .0))
+
+  back-part : (b : List ℕ) → isPart q ≡ true → handedBack q b ≡ (partOf Quoted (opening q) (length b), [])
+  back-part b e = rw (e, handedBack)
+
+  back-scratch : (b : List ℕ) → isPart q ≡ false → handedBack q b ≡ (partOf Scratch 0 (length b), b)
+  back-scratch b e = rw (e, handedBack)
+
+  abbrev fillWith : Part × List ℕ → After Part
+  fillWith x = fill old (done x)
+
+  fits : (p : Part) (new : List ℕ) → length new ≤ length old → fill old (done (p, new)) ≡ after (done p) (written new old)
+  unfolding fill
+  fits p new h = rw (le-leb (length new) (length old) h, fill)
+
+  fits-not : (p : Part) (new : List ℕ) → length old < length new → fill old (done (p, new)) ≡ after (refusedWith (nowhere 14)) old
+  unfolding fill
+  fits-not p new h = rw (lt-leb (length new) (length old) h, fill)
+
+  pub is-part : (w : unquoting.Unescaped) (l exit : List ℕ) (number len : ℕ) → Reads 0 l w exit number len → number ≡ 0 → isPart q ≡ true → placedCall q old w ≡ after (done (partOf Quoted (opening q) len)) old
+  is-part (value v) l exit number len h n e =
+      let z : length (encode v) ≡ len = omega (arith, h .1) in
+      ap fillWith (back-part (encode v) e) ∙ fits _ [] (omega arith) ∙ rw z
+  is-part (fault k) l exit number len h n e = absurd (omega (arith, h .0, h .1))
+
+  pub no-room : (w : unquoting.Unescaped) (l exit : List ℕ) (number len : ℕ) → Reads 0 l w exit number len → number ≡ 0 → isPart q ≡ false → length old < len → placedCall q old w ≡ after (refusedWith (nowhere 14)) old
+  no-room (value v) l exit number len h n e k = ap fillWith (back-scratch (encode v) e) ∙ fits-not _ (encode v) (omega (arith, h .1))
+  no-room (fault m) l exit number len h n e k = absurd (omega (arith, h .0, h .1))
+
+  pub is-written : (w : unquoting.Unescaped) (l exit : List ℕ) (number len : ℕ) (new : List ℕ) (number2 len2 : ℕ) → Reads 0 l w exit number len → Reads 0 old w new number2 len2 → number ≡ 0 → isPart q ≡ false → len ≤ length old → placedCall q old w ≡ after (done (partOf Scratch 0 len2)) new
+  is-written (value v) l exit number len new number2 len2 h g n e k =
+      let z : length (encode v) ≡ len2 = omega (arith, g .1) in
+      let y : new ≡ written (encode v) old = g .2 ∙ sets-eq (encode v) old 0 (omega (arith, h .1)) ∙ rw (zero-add (length (encode v))) in
+      ap fillWith (back-scratch (encode v) e) ∙ fits _ (encode v) (omega (arith, h .1)) ∙ rw (y, z)
+  is-written (fault m) l exit number len new number2 len2 h g n e k = absurd (omega (arith, h .0, h .1))
+
+  -- a refusal that the code made
+  refusal-is : (r x : Refusal) (z : After Part) → r ≡ x → z ≡ after (refusedWith x) old → after (refusedWith r) old ≡ z
+  refusal-is r x z e f = ap (λ (y : Refusal). after {A = Part} (refusedWith y) old) e ∙ sym f
+
+  pub long-refused : (r : Refusal) → r ≡ refusal 1 (place 65535) → 65535 < length q → after (refusedWith r) old ≡ unquoteCall q old
+  long-refused r e h = refusal-is r _ _ e (call-long h)
+
+  pub bad-refused : (r : Refusal) (n : ℕ) → r ≡ refusal 2 (place n) → n ≡ wellFormedLen q → length q ≤ 65535 → (n ≡ length q → ⊥) → after (refusedWith r) old ≡ unquoteCall q old
+  bad-refused r n e m h f = refusal-is r _ _ (e ∙ rw m) (call-bad h (λ x. f (m ∙ x)))
+
+  pub good-is : (n : ℕ) → n ≡ wellFormedLen q → length q ≤ 65535 → n ≡ length q → unquoteCall q old ≡ placedCall q old (unquoteChars (kept q 0))
+  good-is n m h e = call-good h (sym m ∙ e)
+
+  -- the text between the quotes is refused, or placed
+  pub fault-refused : (n : ℕ) (r : Refusal) → unquoteCall q old ≡ placedCall q old (unquoteChars (kept q 0)) → r ≡ nowhere n → unquoteChars (kept q 0) ≡ fault n → after (refusedWith r) old ≡ unquoteCall q old
+  fault-refused n r g e f = refusal-is r _ _ e (g ∙ ap (λ (x : unquoting.Unescaped). placedCall q old x) f ∙ refused (nowhere n))
+
+  pub text-placed : (w : unquoting.Unescaped) (z : After Part) → unquoteCall q old ≡ placedCall q old (unquoteChars (kept q 0)) → unquoteChars (kept q 0) ≡ w → z ≡ placedCall q old w → z ≡ unquoteCall q old
+  text-placed w z g e f = f ∙ ap (λ (x : unquoting.Unescaped). placedCall q old x) (sym e) ∙ sym g
+
+  -- the four answers to a text that was measured
+  pub measured-fault : (w : unquoting.Unescaped) (r : Refusal) (l exit : List ℕ) (number len : ℕ) → r ≡ nowhere number → Reads 0 l w exit number len → (number ≡ 0 → ⊥) → after (refusedWith r) old ≡ placedCall q old w
+  measured-fault w r l exit number len e h n = refusal-is r _ _ e (is-fault w 0 l exit number len h n)
+
+  pub measured-part : (w : unquoting.Unescaped) (l exit : List ℕ) (number len start : ℕ) → start ≡ opening q → Reads 0 l w exit number len → number ≡ 0 → isPart q ≡ true → after (done (partOf Quoted start len)) old ≡ placedCall q old w
+  measured-part w l exit number len start e h n y = rw e (sym (is-part w l exit number len h n y))
+
+  pub measured-room : (w : unquoting.Unescaped) (r : Refusal) (l exit : List ℕ) (number len : ℕ) → r ≡ nowhere 14 → Reads 0 l w exit number len → number ≡ 0 → isPart q ≡ false → length old < len → after (refusedWith r) old ≡ placedCall q old w
+  measured-room w r l exit number len e h n y k = refusal-is r _ _ e (no-room w l exit number len h n y k)
+
+-- the contents of an equal value
+pub contents-as : (s : List ℕ) (w v : unquoting.Unescaped) (r : Contents) → w ≡ v → ContentsIs s v r → ContentsIs s w r
+contents-as s w v r e h = subst (λ (x : unquoting.Unescaped). ContentsIs s x r) (sym e) h
+
+pub contents-at : (s : List ℕ) (w : unquoting.Unescaped) (r t : Contents) → r ≡ t → ContentsIs s w r → ContentsIs s w t
+contents-at s w r t e h = subst (λ (x : Contents). ContentsIs s w x) e h

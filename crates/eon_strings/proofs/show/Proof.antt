@@ -1,0 +1,88 @@
+-- `eon_strings::show` meets its contract. The part lies within, or the beginning is empty; the sum is made only where it fits.
+-- Assumes nothing.
+use borrow.Author.Needs.{needs}
+use native.Mathlib.Omega.{arith}
+use mathlib.Core.Path.{sym, _∙_}
+use Prim.Native.Nat.{_+_, _-_}
+use lib.ListN.{length}
+use borrow.Author.Tests.{leb-true, leb-false}
+use Rattle.eon_strings.proofs.Bytes.{show-scratch, show-no-scratch, show-quoted, show-no-quoted}
+use Rattle.eon_strings.proofs.show.Statement.{statement}
+use Rattle.eon_strings.proofs.show.Tie as tie
+
+enum-told : tie.Need-enum-told
+enum-told c = search needs
+
+lies-within-requires : tie.Need-lies-within-requires
+lies-within-requires c κs = search needs
+
+add-end : tie.Need-add-end
+add-end c = omega (arith, leb-true (c .before .before .before .before .before .before .args .start + c .before .before .before .before .before .before .args .len) (length (c .before .before .before .before .before .before .args .scratch .now)) (sym (c .before .lies-within .ensures) ∙ c .if1 .taken))
+
+sub-result : tie.Need-sub-result
+sub-result c = search needs
+
+part-result-start : tie.Need-part-result-start
+part-result-start c = search needs
+
+part-result-end : tie.Need-part-result-end
+part-result-end c = omega (arith, leb-true (c .before .before .before .before .before .before .args .start + c .before .before .before .before .before .before .args .len) (length (c .before .before .before .before .before .before .args .scratch .now)) (sym (c .before .lies-within .ensures) ∙ c .if1 .taken))
+
+returns : tie.Need-returns
+returns c = show-scratch (c .before .before .before .before .before .before .before .args .which) (c .before .before .before .before .before .before .before .args .quoted .now) (c .before .before .before .before .before .before .before .args .scratch .now) (c .before .before .before .before .before .before .before .args .start) (c .before .before .before .before .before .before .before .args .len) (c .before .before .before .enum-told .given .1) (leb-true (c .before .before .before .before .before .before .before .args .start + c .before .before .before .before .before .before .before .args .len) (length (c .before .before .before .before .before .before .before .args .scratch .now)) (sym (c .before .before .lies-within .ensures) ∙ c .before .if1 .taken))
+
+slice-aggregate-result : tie.Need-slice-aggregate-result
+slice-aggregate-result c = search needs
+
+returns-2 : tie.Need-returns-2
+returns-2 c = show-no-scratch (c .before .before .before .before .before .before .before .args .which) (c .before .before .before .before .before .before .before .args .quoted .now) (c .before .before .before .before .before .before .before .args .scratch .now) (c .before .before .before .before .before .before .before .args .start) (c .before .before .before .before .before .before .before .args .len) (c .before .before .before .enum-told .given .1) (leb-false (c .before .before .before .before .before .before .before .args .start + c .before .before .before .before .before .before .before .args .len) (length (c .before .before .before .before .before .before .before .args .scratch .now)) (sym (c .before .before .lies-within .ensures) ∙ c .before .if1 .left))
+
+enum-told-2 : tie.Need-enum-told-2
+enum-told-2 c = search needs
+
+lies-within-requires-2 : tie.Need-lies-within-requires-2
+lies-within-requires-2 c κs = search needs
+
+add-end-2 : tie.Need-add-end-2
+add-end-2 c = omega (arith, leb-true (c .before .before .before .before .before .before .args .start + c .before .before .before .before .before .before .args .len) (length (c .before .before .before .before .before .before .args .quoted .now)) (sym (c .before .lies-within2 .ensures) ∙ c .if2 .taken))
+
+sub-result-2 : tie.Need-sub-result-2
+sub-result-2 c = search needs
+
+part-result-start-2 : tie.Need-part-result-start-2
+part-result-start-2 c = search needs
+
+part-result-end-2 : tie.Need-part-result-end-2
+part-result-end-2 c = omega (arith, leb-true (c .before .before .before .before .before .before .args .start + c .before .before .before .before .before .before .args .len) (length (c .before .before .before .before .before .before .args .quoted .now)) (sym (c .before .lies-within2 .ensures) ∙ c .if2 .taken))
+
+returns-3 : tie.Need-returns-3
+returns-3 c = show-quoted (c .before .before .before .before .before .before .before .args .which) (c .before .before .before .before .before .before .before .args .quoted .now) (c .before .before .before .before .before .before .before .args .scratch .now) (c .before .before .before .before .before .before .before .args .start) (c .before .before .before .before .before .before .before .args .len) (c .before .before .before .enum-told2 .given .1) (leb-true (c .before .before .before .before .before .before .before .args .start + c .before .before .before .before .before .before .before .args .len) (length (c .before .before .before .before .before .before .before .args .quoted .now)) (sym (c .before .before .lies-within2 .ensures) ∙ c .before .if2 .taken))
+
+slice-aggregate-result-2 : tie.Need-slice-aggregate-result-2
+slice-aggregate-result-2 c = search needs
+
+returns-4 : tie.Need-returns-4
+returns-4 c = show-no-quoted (c .before .before .before .before .before .before .before .args .which) (c .before .before .before .before .before .before .before .args .quoted .now) (c .before .before .before .before .before .before .before .args .scratch .now) (c .before .before .before .before .before .before .before .args .start) (c .before .before .before .before .before .before .before .args .len) (c .before .before .before .enum-told2 .given .1) (leb-false (c .before .before .before .before .before .before .before .args .start + c .before .before .before .before .before .before .before .args .len) (length (c .before .before .before .before .before .before .before .args .quoted .now)) (sym (c .before .before .lies-within2 .ensures) ∙ c .before .if2 .left))
+
+pub show-spec : {M : Type 1} → statement M
+show-spec =
+    tie.close
+    (tie.spec
+    enum-told
+    lies-within-requires
+    add-end
+    sub-result
+    part-result-start
+    part-result-end
+    returns
+    slice-aggregate-result
+    returns-2
+    enum-told-2
+    lies-within-requires-2
+    add-end-2
+    sub-result-2
+    part-result-start-2
+    part-result-end-2
+    returns-3
+    slice-aggregate-result-2
+    returns-4)
