@@ -1,0 +1,11 @@
+pub mod Tests
+pub mod Auto
+pub mod Steps
+pub mod Longest
+pub mod Bridge
+pub mod Text
+pub mod Whole
+pub mod Laws
+pub mod Places
+pub mod Unique
+pub mod Examples
