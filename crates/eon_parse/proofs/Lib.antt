@@ -1,0 +1,13 @@
+pub mod Laws
+pub mod Left
+pub mod Store
+pub mod Sink
+pub mod Pass
+pub mod Count
+pub mod Fill
+pub mod Steps
+pub mod Same
+pub mod Whole
+pub mod Tops
+pub mod Calls
+pub mod Ranges

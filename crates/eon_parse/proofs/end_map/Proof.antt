@@ -1,0 +1,25 @@
+use mathlib.Core.Path.{ap, _∙_}
+use borrow.Author.Needs.{needs}
+use Rattle.eon_parse.specs.declared.Top.the-variants.{Map}
+use Rattle.eon_parse.proofs.Tops.{end-clear, end-left}
+use Rattle.eon_parse.proofs.end_map.Statement.{statement}
+use Rattle.eon_parse.proofs.end_map.Tie as tie
+
+peek-requires : tie.Need-peek-requires
+peek-requires c κs = search needs
+
+whole-is-requires : tie.Need-whole-is-requires
+whole-is-requires c κs = search needs
+
+returns : tie.Need-returns
+returns c = ap (Map (c .before .before .before .before .before .before .before .args .x .count)) (c .whole-is .ensures) ∙ end-clear (c .before .before .before .peek .result) (c .before .before .before .before .before .before .before .args .x .cursor .peeked) (c .before .before .before .peek .ensures) (c .before .if1 .taken) _
+
+stray-requires : tie.Need-stray-requires
+stray-requires c κs = search needs
+
+returns-2 : tie.Need-returns-2
+returns-2 c = end-left (c .before .before .before .peek .result) (c .before .before .before .before .before .before .before .args .x .cursor .peeked) (c .before .before .before .peek .ensures) (c .before .if1 .left) _ (c .stray .result) (c .stray .ensures)
+
+pub end-map-spec : {M : Type 1} → statement M
+end-map-spec =
+    tie.close (tie.spec peek-requires whole-is-requires returns stray-requires returns-2)

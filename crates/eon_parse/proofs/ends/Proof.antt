@@ -1,0 +1,31 @@
+use mathlib.Core.Path.{ap, _∙_}
+use native.Mathlib.Omega.{arith}
+use borrow.Author.Needs.{needs}
+use denote.Ref.{now}
+use Rattle.eon_token.specs.Place.{placeOf}
+use Rattle.eon_parse.specs.Walk.{closes, stops}
+use Rattle.eon_token.specs.declared.cursor.Cursor.{Cursor}
+use Rattle.eon_token.specs.declared.token_kind.PlacedToken.{PlacedToken}
+use Rattle.eon_parse.proofs.Pass.{ready-at}
+use Rattle.eon_parse.proofs.ends.Statement.{statement}
+use Rattle.eon_parse.proofs.ends.Tie as tie
+
+ahead-requires : tie.Need-ahead-requires
+ahead-requires c κs =
+    let s = now (c .before .before .args .text) in
+    ready-at s (c .before .before .args .w .cursor) (c .before .before .args .w .count) 0 (c .before .before .args .w .cursor) (placeOf (c .before .before .args .w .cursor)) (c .before .before .pre) (c .before .before .pre .fresh) (c .before .before .pre .bound) (omega arith)
+
+peek-requires : tie.Need-peek-requires
+peek-requires c κs = search needs
+
+closing-requires : tie.Need-closing-requires
+closing-requires c κs = search needs
+
+returns : tie.Need-returns
+unfolding stops
+returns c =
+    let s = now (c .before .before .before .before .before .args .text) in
+    c .closing .ensures ∙ ap (λ (t : PlacedToken). closes (t .kind)) (c .before .peek .ensures ∙ ap (λ (y : Cursor). y .peeked) (c .before .before .ahead .ensures))
+
+pub ends-spec : {M : Type 1} → statement M
+ends-spec = tie.close (tie.spec ahead-requires peek-requires closing-requires returns)

@@ -1,0 +1,75 @@
+use mathlib.Core.Path.{_≡_, sym, ap, _∙_}
+use native.Mathlib.Omega.{arith}
+use borrow.Author.Needs.{needs}
+use borrow.Author.Tests.{eq-eqb, ne-eqb}
+use denote.Ref.{now}
+use Rattle.eon_token.specs.Place.{kindAt, nextSpan}
+use Rattle.eon_parse.specs.Walk.{tailR}
+use Rattle.eon_parse.specs.Answer.{place}
+use Rattle.eon_parse.specs.declared.Walk.{Walk}
+use Rattle.eon_token.proofs.Places.{gets}
+use Rattle.eon_parse.proofs.Laws.{tail-emit}
+use Rattle.eon_parse.proofs.Steps.{settle-comma}
+use Rattle.eon_parse.proofs.Pass.{ready-at, peeks-kind}
+use Rattle.eon_parse.proofs.settle.Statement.{statement}
+use Rattle.eon_parse.proofs.settle.Tie as tie
+
+kind-requires : tie.Need-kind-requires
+kind-requires c κs = search needs
+
+skip-requires : tie.Need-skip-requires
+skip-requires c κs =
+    let s = now (c .before .before .before .before .args .text) in
+    let w = c .before .before .before .before .args .w in
+    let k : c .before .kind .result ≡ kindAt s (place w) = c .before .kind .ensures ∙ peeks-kind s (w .cursor) (w .count) (c .before .before .before .before .pre) in
+    (c .before .before .before .before .pre, omega (arith, c .before .kind .ensures, c .if1 .taken))
+
+suffix-end-requires : tie.Need-suffix-end-requires
+suffix-end-requires c κs =
+    let s = now (c .before .before .before .before .before .before .args .text) in
+    let w = c .before .before .before .before .before .before .args .w in
+    let k : c .before .before .before .kind .result ≡ kindAt s (place w) = c .before .before .before .kind .ensures ∙ peeks-kind s (w .cursor) (w .count) (c .before .before .before .before .before .before .pre) in
+    let g = gets s (place w) (c .before .before .before .before .before .before .pre .bound) (omega (arith, k, c .before .before .if1 .taken)) in
+    ready-at s (w .cursor) (w .count) 0 (c .before .skip .result .cursor) (nextSpan s (place w)) (c .before .before .before .before .before .before .pre) (ap (λ (y : Walk). y .cursor) (c .before .skip .ensures)) (g .bound) (omega arith)
+
+at-requires : tie.Need-at-requires
+at-requires c κs = search needs
+
+tail-requires : tie.Need-tail-requires
+tail-requires c κs =
+    let s = now (c .before .before .before .before .before .before .before .before .args .text) in
+    let w = c .before .before .before .before .before .before .before .before .args .w in
+    let k : c .before .before .before .before .before .kind .result ≡ kindAt s (place w) = c .before .before .before .before .before .kind .ensures ∙ peeks-kind s (w .cursor) (w .count) (c .before .before .before .before .before .before .before .before .pre) in
+    omega (arith, c .before .before .before .before .before .before .before .before .pre .few, c .before .before .before .before .before .before .before .before .pre .bound .within, c .before .before .before .before .before .before .before .before .pre .short, ap (λ (y : Walk). y .count) (c .at .ensures), ap (λ (y : Walk). y .count) (c .before .before .before .skip .ensures))
+
+returns : tie.Need-returns
+returns c =
+    let s = now (c .before .before .before .before .before .before .before .before .before .args .text) in
+    let tb = now (c .before .before .before .before .before .before .before .before .before .args .table) in
+    let w = c .before .before .before .before .before .before .before .before .before .args .w in
+    let k : c .before .before .before .before .before .before .kind .result ≡ kindAt s (place w) = c .before .before .before .before .before .before .kind .ensures ∙ peeks-kind s (w .cursor) (w .count) (c .before .before .before .before .before .before .before .before .before .pre) in
+    rw (eq-eqb _ _ (sym k ∙ c .before .before .before .before .before .if1 .taken)) (settle-comma s tb w (c .before .before .before .before .skip .result) (c .before .before .before .before .skip .ensures) (c .before .before .suffix-end .result) (c .before .before .suffix-end .ensures) (c .before .at .result) (c .before .at .ensures) (c .tail .result) (c .tail .ensures))
+
+tail-requires-2 : tie.Need-tail-requires-2
+tail-requires-2 c κs = omega (arith, c .before .before .before .before .pre .few, c .before .before .before .before .pre .bound .within, c .before .before .before .before .pre .short)
+
+returns-2 : tie.Need-returns-2
+returns-2 c =
+    let s = now (c .before .before .before .before .before .args .text) in
+    let tb = now (c .before .before .before .before .before .args .table) in
+    let w = c .before .before .before .before .before .args .w in
+    let k : c .before .before .kind .result ≡ kindAt s (place w) = c .before .before .kind .ensures ∙ peeks-kind s (w .cursor) (w .count) (c .before .before .before .before .before .pre) in
+    rw (ne-eqb _ _ (λ z. c .before .if1 .left (k ∙ z))) (c .tail2 .ensures ∙ tail-emit s tb w (c .before .before .before .before .before .pre .fresh) (tailR (c .before .before .before .before .before .args .from) (place w)))
+
+pub settle-spec : {M : Type 1} → statement M
+settle-spec =
+    tie.close
+    (tie.spec
+    kind-requires
+    skip-requires
+    suffix-end-requires
+    at-requires
+    tail-requires
+    returns
+    tail-requires-2
+    returns-2)

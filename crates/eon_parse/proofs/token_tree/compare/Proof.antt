@@ -1,0 +1,60 @@
+use mathlib.Core.Path.{sym, ap, _∙_}
+use native.Mathlib.Omega.{arith}
+use borrow.Author.Needs.{needs}
+use denote.Ref.{now}
+use Rattle.eon_spec.specs.Calls.{outcomeOf}
+use Rattle.eon_parse.proofs.Ranges.{finished-done, first-refused, second-refused, counts-differ, ranges-say}
+use Rattle.eon_parse.proofs.token_tree.compare.Statement.{statement}
+use Rattle.eon_parse.proofs.token_tree.compare.Tie as tie
+
+finished-requires : tie.Need-finished-requires
+finished-requires c κs = search needs
+
+enum-known-r : tie.Need-enum-known-r
+enum-known-r c = search needs
+
+enum-known-n : tie.Need-enum-known-n
+enum-known-n c = search needs
+
+finished-requires-2 : tie.Need-finished-requires-2
+finished-requires-2 c κs = search needs
+
+enum-known-q : tie.Need-enum-known-q
+enum-known-q c = search needs
+
+enum-known-m : tie.Need-enum-known-m
+enum-known-m c = search needs
+
+returns : tie.Need-returns
+returns c = counts-differ (now (c .before .before .before .before .before .before .before .before .before .before .before .before .before .args .text-a)) (now (c .before .before .before .before .before .before .before .before .before .before .before .before .before .args .table-a)) (now (c .before .before .before .before .before .before .before .before .before .before .before .before .before .args .text-b)) (now (c .before .before .before .before .before .before .before .before .before .before .before .before .before .args .table-b)) (c .before .before .before .before .before .before .n .given .0 .0) (finished-done (now (c .before .before .before .before .before .before .before .before .before .before .before .before .before .args .text-a)) (now (c .before .before .before .before .before .before .before .before .before .before .before .before .before .args .table-a)) (c .before .before .before .before .before .before .n .given .0 .0) (sym (ap outcomeOf (c .before .before .before .before .before .before .n .given .1)) ∙ c .before .before .before .before .before .before .before .before .finished .ensures)) (c .before .before .m .given .0 .0) (finished-done (now (c .before .before .before .before .before .before .before .before .before .before .before .before .before .args .text-b)) (now (c .before .before .before .before .before .before .before .before .before .before .before .before .before .args .table-b)) (c .before .before .m .given .0 .0) (sym (ap outcomeOf (c .before .before .m .given .1)) ∙ c .before .before .before .before .finished2 .ensures)) (c .if1 .taken)
+
+same-range-requires : tie.Need-same-range-requires
+same-range-requires c κs =
+    let a = finished-done (now (c .before .before .before .before .before .before .before .before .before .before .before .before .before .args .text-a)) (now (c .before .before .before .before .before .before .before .before .before .before .before .before .before .args .table-a)) (c .before .before .before .before .before .before .n .given .0 .0) (sym (ap outcomeOf (c .before .before .before .before .before .before .n .given .1)) ∙ c .before .before .before .before .before .before .before .before .finished .ensures) in
+    let b = finished-done (now (c .before .before .before .before .before .before .before .before .before .before .before .before .before .args .text-b)) (now (c .before .before .before .before .before .before .before .before .before .before .before .before .before .args .table-b)) (c .before .before .m .given .0 .0) (sym (ap outcomeOf (c .before .before .m .given .1)) ∙ c .before .before .before .before .finished2 .ensures) in
+    (omega (arith, a .room), omega (arith, b .room, c .if1 .left))
+
+returns-2 : tie.Need-returns-2
+returns-2 c = first-refused (now (c .before .before .before .before .before .before .before .before .args .text-a)) (now (c .before .before .before .before .before .before .before .before .args .table-a)) (now (c .before .before .before .before .before .before .before .before .args .text-b)) (now (c .before .before .before .before .before .before .before .before .args .table-b)) (c .before .r .given .0 .0) (sym (ap outcomeOf (c .before .r .given .1)) ∙ c .before .before .before .finished .ensures)
+
+returns-3 : tie.Need-returns-3
+returns-3 c = second-refused (now (c .before .before .before .before .before .before .before .before .before .before .before .before .args .text-a)) (now (c .before .before .before .before .before .before .before .before .before .before .before .before .args .table-a)) (now (c .before .before .before .before .before .before .before .before .before .before .before .before .args .text-b)) (now (c .before .before .before .before .before .before .before .before .before .before .before .before .args .table-b)) (c .before .before .before .before .before .n .given .0 .0) (finished-done (now (c .before .before .before .before .before .before .before .before .before .before .before .before .args .text-a)) (now (c .before .before .before .before .before .before .before .before .before .before .before .before .args .table-a)) (c .before .before .before .before .before .n .given .0 .0) (sym (ap outcomeOf (c .before .before .before .before .before .n .given .1)) ∙ c .before .before .before .before .before .before .before .finished .ensures)) (c .before .q .given .0 .0) (sym (ap outcomeOf (c .before .q .given .1)) ∙ c .before .before .before .finished2 .ensures)
+
+returns-4 : tie.Need-returns-4
+returns-4 c = ranges-say (now (c .before .before .before .before .before .before .before .before .before .before .before .before .before .before .args .text-a)) (now (c .before .before .before .before .before .before .before .before .before .before .before .before .before .before .args .table-a)) (now (c .before .before .before .before .before .before .before .before .before .before .before .before .before .before .args .text-b)) (now (c .before .before .before .before .before .before .before .before .before .before .before .before .before .before .args .table-b)) (c .before .before .before .before .before .before .before .n .given .0 .0) (finished-done (now (c .before .before .before .before .before .before .before .before .before .before .before .before .before .before .args .text-a)) (now (c .before .before .before .before .before .before .before .before .before .before .before .before .before .before .args .table-a)) (c .before .before .before .before .before .before .before .n .given .0 .0) (sym (ap outcomeOf (c .before .before .before .before .before .before .before .n .given .1)) ∙ c .before .before .before .before .before .before .before .before .before .finished .ensures)) (c .before .before .before .m .given .0 .0) (finished-done (now (c .before .before .before .before .before .before .before .before .before .before .before .before .before .before .args .text-b)) (now (c .before .before .before .before .before .before .before .before .before .before .before .before .before .before .args .table-b)) (c .before .before .before .m .given .0 .0) (sym (ap outcomeOf (c .before .before .before .m .given .1)) ∙ c .before .before .before .before .before .finished2 .ensures)) (c .before .if1 .left) (c .same-range .result) (c .same-range .ensures)
+
+pub compare-spec : {M : Type 1} → statement M
+compare-spec =
+    tie.close
+    (tie.spec
+    finished-requires
+    enum-known-r
+    enum-known-n
+    finished-requires-2
+    enum-known-q
+    enum-known-m
+    returns
+    same-range-requires
+    returns-2
+    returns-3
+    returns-4)

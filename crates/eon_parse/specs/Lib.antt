@@ -1,0 +1,6 @@
+pub mod Walk
+pub mod Top
+pub mod Answer
+pub mod Tops
+pub mod Call
+pub mod Ranges
