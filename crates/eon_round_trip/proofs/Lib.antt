@@ -1,0 +1,17 @@
+pub mod Plain
+pub mod Pieces
+pub mod Ready
+pub mod ReadSteps
+pub mod ReadBack
+pub mod Written
+pub mod Lexing
+pub mod Quotes
+pub mod Stays
+pub mod Parted
+pub mod Compare
+pub mod Round
+pub mod NoComments
+pub mod Premises
+pub mod RoundTrip
+pub mod Runs
+pub mod Examples
