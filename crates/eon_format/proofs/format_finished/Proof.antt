@@ -1,0 +1,33 @@
+use mathlib.Core.Path.{_≡_, sym, _∙_, subst}
+use mathlib.Core.List.{List}
+use Prim.Native.Nat.{ℕ}
+use lib.ListN.{length}
+use denote.Ref.{now}
+use Rattle.eon_spec.specs.Tree.{TokenTree}
+use Rattle.eon_format.specs.Tabled.{TreeAt}
+use Rattle.eon_format.proofs.Joined.{table-holds, settings-short, formatted}
+use Rattle.eon_spec.specs.Calls.{done, readFinished}
+use Rattle.eon_spec.specs.Records.{treeRecords}
+use borrow.Author.Needs.{needs}
+use Rattle.eon_format.proofs.format_finished.Statement.{statement}
+use Rattle.eon_format.proofs.format_finished.Tie as tie
+
+-- the table holds the tree
+holds : (s tb : List ℕ) (end : ℕ) (t : TokenTree) → readFinished s tb ≡ done t → end ≡ length (treeRecords t) → TreeAt s tb end 0 t
+holds s tb end t e l = subst (λ (n : ℕ). TreeAt s tb n 0 t) (sym l) (table-holds s tb t e)
+
+lay-out-requires : tie.Need-lay-out-requires
+lay-out-requires c κs =
+    let q = c .before .before .before .before .pre .1 in
+    (settings-short (c .before .before .before .before .args .o) (c .before .before .before .before .pre .0), (q .0, holds (now (c .before .before .before .before .args .text)) (now (c .before .before .before .before .args .table)) (c .before .before .before .before .args .end) (q .0) (q .1) (q .2)))
+
+same-length : tie.Need-same-length
+same-length c = search needs
+
+returns : tie.Need-returns
+returns c =
+    let q = c .before .before .before .before .before .before .before .pre .1 in
+    c .before .before .lay-out .ensures (q .0) (holds (now (c .before .before .before .before .before .before .before .args .text)) (now (c .before .before .before .before .before .before .before .args .table)) (c .before .before .before .before .before .before .before .args .end) (q .0) (q .1) (q .2)) ∙ formatted (now (c .before .before .before .before .before .before .before .args .text)) (now (c .before .before .before .before .before .before .before .args .table)) (c .before .before .before .before .before .before .before .args .o) (now (c .before .before .before .before .before .before .before .args .out)) (q .0) (c .before .before .before .before .before .before .before .pre .0) (q .1)
+
+pub format-finished-spec : {M : Type 1} → statement M
+format-finished-spec = tie.close (tie.spec lay-out-requires same-length returns)

@@ -1,0 +1,128 @@
+use Rattle.eon_format.specs.Tabled.{SomeTree, word, InsideAt, sizeTree}
+use Rattle.eon_spec.specs.Tree.{noTrees, Slice, TokenTrees}
+use Rattle.eon_format.proofs.Rows.{inside-by}
+use mathlib.Core.Path.{_≡_, sym, ap, _∙_}
+use mathlib.Core.Bool.{true}
+use mathlib.Core.List.{List, _++_}
+use Prim.Native.Nat.{ℕ, _+_, _-_, _≤_, _<_}
+use native.Mathlib.Omega.{arith}
+use lib.Dec.{eqb}
+use denote.Ref.{now}
+use Rattle.eon_spec.specs.Layout.{gap, lineEnds, noValues, settingsOf}
+use Rattle.eon_format.proofs.Writing.{wrote-none, wrote-then, wrote-as, going-length}
+use Rattle.eon_format.proofs.Walk.{more-in, Through, through-start, through-tree, through-step, through-done, through-end, through-empty, finish, inside-texts, ends-content, ends-body, tree-gap}
+use Rattle.eon_format.proofs.Trees.{inside-closing, inside-end, tree-pos}
+use borrow.Author.Needs.{needs}
+use Rattle.eon_format.proofs.long_variant.Statement.{statement}
+use Rattle.eon_format.proofs.long_variant.Tie as tie
+
+abbrev Inv-loop : tie.InvT-loop
+Inv-loop text table o i n out₀ live at end base j₀ at₀ out j at' = (base ≤ j) × ((vs : TokenTrees) (cl : List Slice) → InsideAt text table end base vs cl → Through text table end live out₀ at₀ (lineEnds (settingsOf o) true vs) (lineEnds (settingsOf o)) cl base j at' out)
+
+abbrev μ-loop : tie.MeasureT-loop
+μ-loop text table o i n out₀ live at end base j₀ at₀ out j at' = end - j
+
+-- the tree at the turn's record
+tree-here : (d : tie.Then1 Inv-loop μ-loop) → SomeTree (now (d .before .before .before .before .before .before .before .before .before .before .before .args .text)) (now (d .before .before .before .before .before .before .before .before .before .before .before .args .table)) (d .before .before .before .before .before .before .before .before .before .before .before .args .i + d .before .before .before .before .before .before .before .word .result) (d .before .before .loop .j)
+tree-here d =
+    let q = d .before .before .before .before .before .before .before .before .before .before .before .pre .3 in
+    through-tree (now (d .before .before .before .before .before .before .before .before .before .before .before .args .text)) (now (d .before .before .before .before .before .before .before .before .before .before .before .args .table)) (d .before .before .before .before .before .before .before .before .before .before .before .args .i + d .before .before .before .before .before .before .before .word .result) (d .before .before .loop .inv .1 (q .0) (q .1) (inside-by (now (d .before .before .before .before .before .before .before .before .before .before .before .args .text)) (now (d .before .before .before .before .before .before .before .before .before .before .before .args .table)) (d .before .before .before .before .before .before .before .before .before .before .before .args .i) (d .before .before .before .before .before .before .before .word .result) (d .before .before .before .before .before .before .before .word .ensures .0) (q .0) (q .1) (q .2))) (sym (d .before .more .ensures) ∙ d .if1 .taken)
+
+-- what is left after the last tree
+trees-done : (d : tie.Else1 Inv-loop μ-loop) (vs : TokenTrees) (cl : List Slice) → InsideAt (now (d .before .before .before .before .before .before .before .before .before .before .before .args .text)) (now (d .before .before .before .before .before .before .before .before .before .before .before .args .table)) (d .before .before .before .before .before .before .before .before .before .before .before .args .i + word (now (d .before .before .before .before .before .before .before .before .before .before .before .args .table)) (d .before .before .before .before .before .before .before .before .before .before .before .args .i) 4) (d .before .before .before .before .before .before .before .before .before .before .before .args .i + 1) vs cl → InsideAt (now (d .before .before .before .before .before .before .before .before .before .before .before .args .text)) (now (d .before .before .before .before .before .before .before .before .before .before .before .args .table)) (d .before .before .before .before .before .before .before .before .before .before .before .args .i + d .before .before .before .before .before .before .before .word .result) (d .before .before .loop .j) noTrees cl
+trees-done d vs cl h = through-done (now (d .before .before .before .before .before .before .before .before .before .before .before .args .text)) (now (d .before .before .before .before .before .before .before .before .before .before .before .args .table)) (d .before .before .before .before .before .before .before .before .before .before .before .args .i + d .before .before .before .before .before .before .before .word .result) (d .before .before .loop .inv .1 vs cl (inside-by (now (d .before .before .before .before .before .before .before .before .before .before .before .args .text)) (now (d .before .before .before .before .before .before .before .before .before .before .before .args .table)) (d .before .before .before .before .before .before .before .before .before .before .before .args .i) (d .before .before .before .before .before .before .before .word .result) (d .before .before .before .before .before .before .before .word .ensures .0) vs cl h)) (sym (d .before .more .ensures) ∙ d .if1 .left)
+
+word-requires : tie.Need-word-requires Inv-loop μ-loop
+word-requires c κs = omega arith
+
+add-end : tie.Need-add-end Inv-loop μ-loop
+add-end c = omega arith
+
+add-base : tie.Need-add-base Inv-loop μ-loop
+add-base c = omega arith
+
+open-lines-requires : tie.Need-open-lines-requires Inv-loop μ-loop
+open-lines-requires c κs = c .before .before .before .before .before .pre .0
+
+loop-holds : tie.Need-loop-holds Inv-loop μ-loop
+loop-holds c = let a = c .before .before .before .before .before .before .before .before .args in (omega arith, λ vs cl h. through-start (now (a .text)) (now (a .table)) (a .i + c .before .before .before .before .word .result) (lineEnds (settingsOf (a .o))) vs cl (a .i + 1) h wrote-none)
+
+more-requires : tie.Need-more-requires Inv-loop μ-loop
+more-requires c κs = search needs
+
+gap-requires : tie.Need-gap-requires Inv-loop μ-loop
+gap-requires c κs = c .before .before .before .before .before .before .before .before .before .before .before .before .pre .0
+
+newline-requires : tie.Need-newline-requires Inv-loop μ-loop
+newline-requires c κs = c .before .before .before .before .before .before .before .before .before .before .before .before .before .before .before .before .pre .0
+
+next-tree-requires : tie.Need-next-tree-requires Inv-loop μ-loop
+next-tree-requires c κs = (now (c .before .before .before .before .before .before .before .before .before .before .before .before .before .before .before .before .before .before .before .args .text), tree-here (c .before .before .before .before .before .before .before .before))
+
+loop-less : tie.Need-loop-less Inv-loop μ-loop
+loop-less c =
+    let u = tree-here (c .before .before .before .before .before .before .before .before .before) in
+    let l : c .before .before .before .before .before .before .before .before .before .before .before .loop .j < c .before .before .before .before .before .before .before .before .before .before .before .before .before .before .before .before .before .before .before .before .args .i + c .before .before .before .before .before .before .before .before .before .before .before .before .before .before .before .before .word .result = more-in (now (c .before .before .before .before .before .before .before .before .before .before .before .before .before .before .before .before .before .before .before .before .args .table)) (c .before .before .before .before .before .before .before .before .before .before .before .before .before .before .before .before .before .before .before .before .args .i + c .before .before .before .before .before .before .before .before .before .before .before .before .before .before .before .before .word .result) (c .before .before .before .before .before .before .before .before .before .before .before .loop .j) (sym (c .before .before .before .before .before .before .before .before .before .before .more .ensures) ∙ c .before .before .before .before .before .before .before .before .before .if1 .taken) in
+    let z : c .next-tree .result ≡ c .before .before .before .before .before .before .before .before .before .before .before .loop .j + sizeTree (u .0) = c .next-tree .ensures (now (c .before .before .before .before .before .before .before .before .before .before .before .before .before .before .before .before .before .before .before .before .args .text)) (u .0) (u .1) in
+    let p : 1 ≤ sizeTree (u .0) = tree-pos (u .0) in
+    omega arith
+
+loop-again : tie.Need-loop-again Inv-loop μ-loop
+loop-again c =
+    let s = now (c .before .before .before .before .before .before .before .before .before .before .before .before .before .before .before .before .before .before .before .before .args .text) in
+    let tb = now (c .before .before .before .before .before .before .before .before .before .before .before .before .before .before .before .before .before .before .before .before .args .table) in
+    let o = settingsOf (c .before .before .before .before .before .before .before .before .before .before .before .before .before .before .before .before .before .before .before .before .args .o) in
+    let end = c .before .before .before .before .before .before .before .before .before .before .before .before .before .before .before .before .before .before .before .before .args .i + c .before .before .before .before .before .before .before .before .before .before .before .before .before .before .before .before .word .result in
+    let j = c .before .before .before .before .before .before .before .before .before .before .before .loop .j in
+    let u = tree-here (c .before .before .before .before .before .before .before .before .before) in
+    let z : c .next-tree .result ≡ j + sizeTree (u .0) = c .next-tree .ensures s (u .0) (u .1) in (
+      omega arith,
+      λ vs cl h. through-step s tb end (c .next-tree .result) (λ b t. gap o b t ++ o .newline) (ends-body o) (c .before .before .before .before .before .before .before .before .before .before .before .loop .inv .1 vs cl h) (sym (c .before .before .before .before .before .before .before .before .before .before .more .ensures) ∙ c .before .before .before .before .before .before .before .before .before .if1 .taken) (c .before .before .before .before .before .before .before .before .before .before .before .loop .inv .0)
+          (λ t k. wrote-as (ap (λ (x : List ℕ). x ++ o .newline) (tree-gap s tb o end j (eqb j (c .before .before .before .before .before .before .before .before .before .before .before .before .before .before .before .before .before .before .before .before .args .i + 1)) t k)) (wrote-then (c .before .before .before .before .before .before .before .gap .ensures) (c .before .before .before .newline .ensures)))
+          (c .next-tree .ensures s),
+    )
+
+close-lines-requires : tie.Need-close-lines-requires Inv-loop μ-loop
+close-lines-requires c κs =
+    let q = c .before .before .before .before .before .before .before .before .before .before .before .before .pre .3 in
+    (c .before .before .before .before .before .before .before .before .before .before .before .before .pre .0, inside-texts (now (c .before .before .before .before .before .before .before .before .before .before .before .before .args .text)) (now (c .before .before .before .before .before .before .before .before .before .before .before .before .args .table)) (c .before .before .before .before .before .before .before .before .before .before .before .before .args .i + c .before .before .before .before .before .before .before .before .word .result) (c .before .before .before .loop .j) (q .1) (trees-done (c .before) (q .0) (q .1) (q .2)), omega arith)
+
+same-length : tie.Need-same-length Inv-loop μ-loop
+same-length c =
+    let q = c .before .before .before .before .before .before .before .before .before .before .before .before .before .before .before .pre .3 in
+    c .before .before .close-lines .kept .1 .1 .1 .1 .1 .1 .1 .1 .0 ∙ going-length (c .before .before .before .before .before .before .loop .inv .1 (q .0) (q .1) (inside-by (now (c .before .before .before .before .before .before .before .before .before .before .before .before .before .before .before .args .text)) (now (c .before .before .before .before .before .before .before .before .before .before .before .before .before .before .before .args .table)) (c .before .before .before .before .before .before .before .before .before .before .before .before .before .before .before .args .i) (c .before .before .before .before .before .before .before .before .before .before .before .word .result) (c .before .before .before .before .before .before .before .before .before .before .before .word .ensures .0) (q .0) (q .1) (q .2)) .going) ∙ c .before .before .before .before .before .before .before .before .before .open-lines .kept .1 .1 .0
+
+returns : tie.Need-returns Inv-loop μ-loop
+returns c vs cl h₀ =
+    let s = now (c .before .before .before .before .before .before .before .before .before .before .before .before .before .before .before .args .text) in
+    let tb = now (c .before .before .before .before .before .before .before .before .before .before .before .before .before .before .before .args .table) in
+    let i = c .before .before .before .before .before .before .before .before .before .before .before .before .before .before .before .args .i in
+    let o = settingsOf (c .before .before .before .before .before .before .before .before .before .before .before .before .before .before .before .args .o) in
+    let end = i + c .before .before .before .before .before .before .before .before .before .before .before .word .result in
+    let j = c .before .before .before .before .before .before .loop .j in
+    let h = inside-by s tb i (c .before .before .before .before .before .before .before .before .before .before .before .word .result) (c .before .before .before .before .before .before .before .before .before .before .before .word .ensures .0) vs cl h₀ in
+    let d = trees-done (c .before .before .before .before) vs cl h₀ in
+    finish s tb end o (c .before .before .before .before .before .before .before .before .before .before .before .before .before .before .before .args .n) j 41 (eqb j (i + 1)) (noValues vs) cl (inside-closing s tb end j cl d) (inside-end s tb end j cl d) (through-empty s tb end (i + 1) j vs cl h d)
+    (wrote-then (c .before .before .before .before .before .before .before .before .before .open-lines .ensures) (through-end s tb end (c .before .before .before .before .before .before .loop .inv .1 vs cl h) (sym (c .before .before .before .before .before .more .ensures) ∙ c .before .before .before .before .if1 .left) (ends-content o)))
+    (c .before .before .close-lines .ensures)
+
+pub long-variant-spec : {M : Type 1} → statement M
+long-variant-spec =
+    tie.close
+    (tie.spec
+    Inv-loop
+    μ-loop
+    word-requires
+    add-end
+    add-base
+    open-lines-requires
+    loop-holds
+    more-requires
+    gap-requires
+    newline-requires
+    next-tree-requires
+    loop-less
+    loop-again
+    close-lines-requires
+    same-length
+    returns)

@@ -1,0 +1,3 @@
+pub mod Checks
+pub mod Desks
+pub mod OneCall

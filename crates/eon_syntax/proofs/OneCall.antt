@@ -1,0 +1,174 @@
+-- Reading and layout in one call: reading into a table of the function's own, and then both memories at once.
+use mathlib.Core.Path.{_≡_, refl, sym, _∙_, ap}
+use mathlib.Core.Bool.{Bool, true, false, _&&_}
+use mathlib.Core.List.{List, [], _∷_, _++_}
+use Prim.Native.Nat.{ℕ, suc, _+_, _*_, _≤_, _<_}
+use native.Mathlib.Omega.{arith}
+use native.Mathlib.Nat.{zero-add}
+use native.Mathlib.Numerals.{add-one}
+use lib.ListN.{length, take, drop, getD, set, length-take}
+use lib.Seq.{paste-suc}
+use lib.Dec.{ltb, leb, le→leb}
+use Rattle.eon_spec.specs.declared.Refusal.{Refusal}
+use Rattle.eon_spec.specs.declared.Answer.{Answer}
+use Rattle.eon_spec.specs.declared.Answer.the-variants.{Done, Refused}
+use Rattle.eon_spec.specs.declared.FormatOptions.{FormatOptions}
+use Rattle.eon_spec.specs.Base.{eqList}
+use Rattle.eon_spec.specs.Tree.{TokenTree}
+use Rattle.eon_spec.specs.Records.{treeRecords, words}
+use Rattle.eon_spec.specs.Layout.{settingsOf, format}
+use Rattle.eon_spec.specs.Calls.{Outcome, done, refusedWith, then, nowhere, After, after, checked, written, fill, outcomeOf, readText, readCall, isFinished, readFinished, goodSettings, checkedSettings, formatCall, AfterBoth, afterBoth, fillBoth, reformatCall}
+use Rattle.eon_laws.proofs.Facts.{true-of, false-of, le-of, le-of-not, list-eq}
+use Rattle.eon_laws.proofs.Records.{words-length}
+use Rattle.eon_laws.proofs.Spans.{few-records}
+use Rattle.eon_round_trip.proofs.RoundTrip.{read-inv}
+use Rattle.eon_round_trip.proofs.Runs.{run-read, found-finished}
+use Rattle.eon_format.proofs.Joined.{formatted}
+
+-- a step of a copy from the front
+pub copied-more : (to from : List ℕ) (i : ℕ) → i < length to → i < length from → set (take i from ++ drop i to) i (getD from i 0) ≡ take (i + 1) from ++ drop (i + 1) to
+copied-more to from i h k = rw add-one (simp zero-add at (paste-suc to 0 from i 0 (omega arith) k))
+
+-- a refusal is no answer
+no-answer : {A B : Type 0} (r : Refusal) (a : A) → refusedWith r ≡ done a → B
+no-answer r a e = absurd (let z : _≡_ {A = ℕ} 0 1 = cc in omega arith)
+
+same-answer : {A : Type 0} {a b : Outcome A} {m k : List ℕ} → after a m ≡ after b k → a ≡ b
+same-answer {A} e = ap (λ (x : After A). x .answer) e
+
+same-memory : {A : Type 0} {a b : Outcome A} {m k : List ℕ} → after a m ≡ after b k → m ≡ k
+same-memory {A} e = ap (λ (x : After A). x .memory) e
+
+-- an answer of the code, where its variant is known
+known : {a b : Answer} {m : List ℕ} {x : After ℕ} → a ≡ b → after (outcomeOf a) m ≡ x → after (outcomeOf b) m ≡ x
+known {m} f e = ap (λ (y : Answer). after (outcomeOf y) m) (sym f) ∙ e
+
+-- ---- reading into a table with room for any text
+
+-- a text that is read is not too long
+short : (s : List ℕ) (t : TokenTree) → readText s ≡ done t → length s ≤ 65535
+unfolding readText checked
+short s t e = go (ltb 65535 (length s)) refl
+  where
+    go : (b : Bool) → ltb 65535 (length s) ≡ b → length s ≤ 65535
+    go true f = no-answer _ t (rw (f, checked) at e)
+    go false f = le-of-not 65535 (length s) f
+
+module _ (s work : List ℕ) (room : length s ≤ 65535 → 5 * (length s + 1) ≤ length work) where
+  filled : (t : TokenTree) → readText s ≡ done t → readCall s work ≡ after (done (length (treeRecords t))) (written (words (treeRecords t)) work)
+  filled t e =
+      let i = read-inv s t e in
+      run-read s t e work (omega (arith, room (short s t e), few-records s (i .0) t (i .1)))
+
+  not-filled : (r : Refusal) → readText s ≡ refusedWith r → readCall s work ≡ after (refusedWith r) work
+  unfolding readCall fill
+  not-filled r e = rw e
+
+  -- reading answers: its table is finished
+  pub read-done : (a : Answer) (n : ℕ) (work′ : List ℕ) → a ≡ Done n → after (outcomeOf a) work′ ≡ readCall s work → (t : TokenTree) × (readFinished s work′ ≡ done t) × (n ≡ length (treeRecords t))
+  read-done a n work′ k d = go (readText s) refl
+    where
+      e : after (done n) work′ ≡ readCall s work
+      e = known k d
+
+      go : (x : Outcome TokenTree) → readText s ≡ x → (t : TokenTree) × (readFinished s work′ ≡ done t) × (n ≡ length (treeRecords t))
+      go (refusedWith r) f = no-answer r n (sym (same-answer (e ∙ not-filled r f)))
+      go (done t) f =
+          let g = e ∙ filled t f in
+          let h = same-answer g in
+          (t, rw (same-memory g) (found-finished s t f work), cc)
+
+  -- reading refuses: not for want of room
+  pub read-refused : (a : Answer) (r : Refusal) (work′ : List ℕ) → a ≡ Refused r → after (outcomeOf a) work′ ≡ readCall s work → readText s ≡ refusedWith r
+  read-refused a r work′ k d = go (readText s) refl
+    where
+      e : after (refusedWith r) work′ ≡ readCall s work
+      e = known k d
+
+      go : (x : Outcome TokenTree) → readText s ≡ x → readText s ≡ refusedWith r
+      go (refusedWith q) f = let g = same-answer (e ∙ not-filled q f) in f ∙ ap refusedWith cc
+      go (done t) f = no-answer r (length (treeRecords t)) (same-answer (e ∙ filled t f))
+
+-- ---- refusals before layout
+
+pub settings-first : (s table : List ℕ) (o : FormatOptions) (out : List ℕ) (r : Refusal) → r ≡ nowhere 16 → goodSettings o ≡ false → afterBoth (refusedWith r) table out ≡ reformatCall s table o out
+unfolding reformatCall checkedSettings fillBoth
+settings-first s table o out r e g = rw (g, checkedSettings, e)
+
+pub text-second : (s table : List ℕ) (o : FormatOptions) (out : List ℕ) (r : Refusal) → readText s ≡ refusedWith r → goodSettings o ≡ true → afterBoth (refusedWith r) table out ≡ reformatCall s table o out
+unfolding reformatCall checkedSettings fillBoth
+text-second s table o out r e g = rw (g, checkedSettings, e)
+
+-- ---- layout by a finished table
+
+finished-text : (s work : List ℕ) (t : TokenTree) → readFinished s work ≡ done t → (readText s ≡ done t) × (take (length (words (treeRecords t))) work ≡ words (treeRecords t))
+unfolding readFinished isFinished
+finished-text s work t e = go (readText s) refl e
+  where
+    go : (x : Outcome TokenTree) → readText s ≡ x → then x (λ u. elim (isFinished work u) [ true ↦ done u | false ↦ refusedWith (nowhere 15) ]) ≡ done t → (readText s ≡ done t) × (take (length (words (treeRecords t))) work ≡ words (treeRecords t))
+    go (refusedWith r) f h = no-answer r t h
+    go (done u) f h = same (isFinished work u) refl h
+      where
+        same : (b : Bool) → isFinished work u ≡ b → elim b as (λ x. Outcome TokenTree) [ true ↦ done u | false ↦ refusedWith (nowhere 15) ] ≡ done t → (readText s ≡ done t) × (take (length (words (treeRecords t))) work ≡ words (treeRecords t))
+        same true q g =
+            let z : u ≡ t = cc in
+            let p : isFinished work t ≡ true = ap (isFinished work) (sym z) ∙ q in
+            (f ∙ ap done z, list-eq (take (length (words (treeRecords t))) work) (words (treeRecords t)) p)
+        same false q g = no-answer _ t g
+
+-- the words and the bytes, where they fit
+module _ (table out w b : List ℕ) where
+  no-table : length table < length w → fillBoth table out (done (w, b)) ≡ afterBoth (refusedWith (nowhere 14)) table out
+  unfolding fillBoth
+  no-table h = rw (false-of (leb (length w) (length table)) (λ e. omega (arith, le-of (length w) (length table) e)), fillBoth)
+
+  module _ (h : length w ≤ length table) where
+    fits : leb (length w) (length table) ≡ true
+    fits = true-of (leb (length w) (length table)) (le→leb (length w) (length table) h)
+
+    -- as the output's own writing goes
+    out-refused : (r : Refusal) (out′ : List ℕ) → after (refusedWith r) out′ ≡ fill out (done (length b, b)) → afterBoth (refusedWith r) table out′ ≡ fillBoth table out (done (w, b))
+    unfolding fill fillBoth
+    out-refused r out′ e = go (leb (length b) (length out)) refl
+      where
+        go : (x : Bool) → leb (length b) (length out) ≡ x → afterBoth (refusedWith r) table out′ ≡ fillBoth table out (done (w, b))
+        go true f = no-answer r (length b) (same-answer (rw (f, fill) at e))
+        go false f = let g = rw (f, fill) at e in rw (fits, f, fillBoth, same-answer g, same-memory g)
+
+    out-done : (n : ℕ) (out′ : List ℕ) → after (done n) out′ ≡ fill out (done (length b, b)) → afterBoth (done n) (written w table) out′ ≡ fillBoth table out (done (w, b))
+    unfolding fill fillBoth
+    out-done n out′ e = go (leb (length b) (length out)) refl
+      where
+        go : (x : Bool) → leb (length b) (length out) ≡ x → afterBoth (done n) (written w table) out′ ≡ fillBoth table out (done (w, b))
+        go true f = let g = rw (f, fill) at e in rw (fits, f, fillBoth, same-answer g, same-memory g)
+        go false f = no-answer (nowhere 14) n (sym (same-answer (rw (f, fill) at e)))
+
+module _ (s work table : List ℕ) (o : FormatOptions) (out : List ℕ) (n : ℕ) (g : goodSettings o ≡ true) (i : (t : TokenTree) × (readFinished s work ≡ done t) × (n ≡ length (treeRecords t))) where
+  abbrev itsWords : List ℕ
+  itsWords = words (treeRecords (i .0))
+
+  abbrev itsBytes : List ℕ
+  itsBytes = format (settingsOf o) (i .0)
+
+  both : fillBoth table out (done (itsWords, itsBytes)) ≡ reformatCall s table o out
+  unfolding reformatCall checkedSettings
+  both = rw (g, checkedSettings, finished-text s work (i .0) (i .1) .0)
+
+  five : length itsWords ≡ 5 * n
+  five = omega (arith, words-length (treeRecords (i .0)), i .2)
+
+  -- as many words stand in the table
+  pub words-within : 5 * n ≤ length work
+  words-within = omega (arith, five, length-take (length itsWords) work, ap length (finished-text s work (i .0) (i .1) .1))
+
+  pub table-short : (r : Refusal) → r ≡ nowhere 14 → length table < 5 * n → afterBoth (refusedWith r) table out ≡ reformatCall s table o out
+  table-short r e h = rw e (sym (no-table table out itsWords itsBytes (omega (arith, five))) ∙ both)
+
+  pub out-short : (a : Answer) (r : Refusal) (out′ : List ℕ) → 5 * n ≤ length table → a ≡ Refused r → after (outcomeOf a) out′ ≡ formatCall s work o out → afterBoth (refusedWith r) table out′ ≡ reformatCall s table o out
+  out-short a r out′ h k e = out-refused table out itsWords itsBytes (omega (arith, five)) r out′ (known k e ∙ sym (formatted s work o out (i .0) g (i .1))) ∙ both
+
+  pub both-written : (a : Answer) (m : ℕ) (out′ table′ : List ℕ) → 5 * n ≤ length table → a ≡ Done m → after (outcomeOf a) out′ ≡ formatCall s work o out → table′ ≡ take (5 * n) work ++ drop (5 * n) table
+      → afterBoth (done m) table′ out′ ≡ reformatCall s table o out
+  both-written a m out′ table′ h k e f =
+      let x : table′ ≡ written itsWords table = f ∙ rw (← five, finished-text s work (i .0) (i .1) .1) in
+      rw x (out-done table out itsWords itsBytes (omega (arith, five)) m out′ (known k e ∙ sym (formatted s work o out (i .0) g (i .1))) ∙ both)

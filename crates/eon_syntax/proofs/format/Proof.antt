@@ -1,0 +1,70 @@
+-- 16 first, then the refusals of the text and of its table up to 15, then layout.
+use borrow.Author.Needs.{needs}
+use mathlib.Core.Path.{sym, _∙_}
+use borrow.Author.Tests.{not-true, not-false}
+use Rattle.eon_syntax.proofs.Checks.{settings-refused, text-refused, text-finished}
+use Rattle.eon_syntax.proofs.format.Statement.{statement}
+use Rattle.eon_syntax.proofs.format.Tie as tie
+use Rattle.eon_syntax.proofs.format.Reads as reads
+use Rattle.eon_syntax.proofs.format.Lts as lts
+use Rattle.eon_format.proofs.format_finished.Reads as format-finished-reads
+use Rattle.eon_format.proofs.good_settings.Reads as good-settings-reads
+use Rattle.eon_parse.proofs.finished.Reads as finished-reads
+use Rattle.eon_spec.proofs.Refusal.new.Reads as new-reads
+
+-- src/lib.rt:21:9
+good-settings-requires : tie.Need-good-settings-requires
+good-settings-requires c κs = search needs
+
+-- src/lib.rt:22:32
+new-requires : tie.Need-new-requires
+new-requires c κs = search needs
+
+-- src/lib.rt:22:9
+returns : tie.Need-returns
+returns c = settings-refused (c .before .before .before .before .before .before .args .text .now) (c .before .before .before .before .before .before .args .table .now) (c .before .before .before .before .before .before .args .options) (c .before .before .before .before .before .before .args .out .now) (c .new .result) (c .new .ensures) (sym (c .before .before .good-settings .ensures) ∙ not-true _ (c .before .if1 .taken))
+
+-- src/lib.rt:24:11
+finished-requires : tie.Need-finished-requires
+finished-requires c κs = search needs
+
+-- src/lib.rt:25:25
+enum-known-r : tie.Need-enum-known-r
+enum-known-r c = search needs
+
+-- src/lib.rt:26:22
+enum-known-n : tie.Need-enum-known-n
+enum-known-n c = search needs
+
+-- src/lib.rt:26:28
+format-finished-requires : tie.Need-format-finished-requires
+format-finished-requires c κs =
+    (sym (c .before .before .before .before .before .before .good-settings .ensures) ∙ not-false _ (c .before .before .before .before .before .if1 .left), text-finished (c .before .before .before .before .before .before .before .before .before .before .args .text .now) (c .before .before .before .before .before .before .before .before .before .before .args .table .now) (c .before .before .before .before .finished .result) (c .before .before .before .before .finished .ensures) _ (c .before .before .n .given .1))
+
+-- src/lib.rt:18:1
+returns-2 : tie.Need-returns-2
+returns-2 c =
+    text-refused (c .before .before .before .before .before .before .before .before .before .args .text .now) (c .before .before .before .before .before .before .before .before .before .args .table .now) (c .before .before .before .finished .result) (c .before .before .before .finished .ensures) (c .before .before .before .before .before .before .before .before .before .args .options) (c .before .before .before .before .before .before .before .before .before .args .out .now) _ (c .before .r .given .1) (sym (c .before .before .before .before .before .good-settings .ensures) ∙ not-false _ (c .before .before .before .before .if1 .left))
+
+-- src/lib.rt:18:1
+same-length : tie.Need-same-length
+same-length c = search needs
+
+-- src/lib.rt:18:1
+returns-3 : tie.Need-returns-3
+returns-3 c = search needs
+
+pub format-spec : {M : Type 1} → statement M
+format-spec =
+    tie.close
+    (tie.spec
+    good-settings-requires
+    new-requires
+    returns
+    finished-requires
+    enum-known-r
+    enum-known-n
+    format-finished-requires
+    returns-2
+    same-length
+    returns-3)

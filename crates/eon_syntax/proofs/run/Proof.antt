@@ -1,0 +1,40 @@
+use borrow.Author.Needs.{needs}
+use Rattle.eon_syntax.proofs.Desks.{run-is}
+use Rattle.eon_syntax.proofs.run.Statement.{statement}
+use Rattle.eon_syntax.proofs.run.Tie as tie
+use Rattle.eon_syntax.proofs.run.Reads as reads
+use Rattle.eon_syntax.proofs.run.Lts as lts
+use Rattle.eon_spec.proofs.FormatOptions.new.Reads as new-reads
+use Rattle.eon_syntax.proofs.format.Reads as format-reads
+use Rattle.eon_syntax.proofs.read.Reads as read-reads
+
+-- src/lib.rt:61:9
+read-requires : tie.Need-read-requires
+read-requires c κs = search needs
+
+-- src/lib.rt:62:39
+new-requires : tie.Need-new-requires
+new-requires c κs = search needs
+
+-- src/lib.rt:62:9
+format-requires : tie.Need-format-requires
+format-requires c κs = search needs
+
+-- src/lib.rt:58:1
+same-length : tie.Need-same-length
+same-length c = search needs
+
+-- src/lib.rt:58:1
+same-length-2 : tie.Need-same-length-2
+same-length-2 c = search needs
+
+-- src/lib.rt:58:1
+returns : tie.Need-returns
+returns c =
+    run-is (c .before .before .before .before .before .before .before .before .before .before .before .before .before .args .text .now) (c .before .before .before .before .before .before .before .before .before .before .before .before .before .args .table .now) (c .before .before .before .before .before .before .before .before .before .before .before .before .before .args .out .now) (c .before .before .before .before .before .before .before .before .read .result) (c .before .before .format .result) (c .before .before .before .before .new .result) (c .before .before .before .before .before .before .before .before .read .last .1 .0) (c .before .before .format .last .1 .1 .1 .0) (c .before .before .before .before .before .before .before .before .read .ensures) (c .before .before .before .before .new .ensures)
+    (c .before .before .format .ensures)
+
+pub run-spec : {M : Type 1} → statement M
+run-spec =
+    tie.close
+    (tie.spec read-requires new-requires format-requires same-length same-length-2 returns)

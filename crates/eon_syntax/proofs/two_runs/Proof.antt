@@ -1,0 +1,77 @@
+-- The four calls in a row; the evening text is the part of the afternoon's output that was written.
+use borrow.Author.Needs.{needs}
+use native.Mathlib.Omega.{arith}
+use mathlib.Core.Path.{_≡_, sym, ap, _∙_}
+use mathlib.Core.List.{List}
+use lib.ListN.{length, take}
+use lib.Seq.{length-take-le}
+use Rattle.eon_spec.specs.Runs.{IsRun, eveningText}
+use Rattle.eon_round_trip.proofs.Runs as round
+use Rattle.eon_syntax.proofs.Desks.{evening-part, run-on}
+use Rattle.eon_syntax.proofs.two_runs.Statement.{statement}
+use Rattle.eon_syntax.proofs.two_runs.Tie as tie
+use Rattle.eon_syntax.proofs.two_runs.Reads as reads
+use Rattle.eon_syntax.proofs.two_runs.Lts as lts
+use Rattle.eon_syntax.proofs.run.Reads as run-reads
+use Rattle.eon_syntax.proofs.wrote_len.Reads as wrote-len-reads
+
+-- src/lib.rt:95:9
+run-requires : tie.Need-run-requires
+run-requires c κs = search needs
+
+-- src/lib.rt:97:9
+wrote-len-requires : tie.Need-wrote-len-requires
+wrote-len-requires c κs = search needs
+
+-- src/lib.rt:98:23
+slice-reshare-prefix-run : tie.Need-slice-reshare-prefix-run
+slice-reshare-prefix-run c = search needs
+
+-- src/lib.rt:98:23
+slice-aggregate-run : tie.Need-slice-aggregate-run
+slice-aggregate-run c = sym (length-take-le (c .before .wrote-len .result) (c .before .before .before .before .before .before .run .last .1 .1 .0) (c .before .wrote-len .ensures .0))
+
+-- src/lib.rt:98:9
+run-requires-2 : tie.Need-run-requires-2
+run-requires-2 c κs = search needs
+
+-- src/lib.rt:84:1
+same-length : tie.Need-same-length
+same-length c = search needs
+
+-- src/lib.rt:84:1
+same-length-2 : tie.Need-same-length-2
+same-length-2 c = search needs
+
+-- src/lib.rt:84:1
+same-length-3 : tie.Need-same-length-3
+same-length-3 c = search needs
+
+-- src/lib.rt:84:1
+same-length-4 : tie.Need-same-length-4
+same-length-4 c = search needs
+
+-- src/lib.rt:84:1
+returns : tie.Need-returns
+returns c =
+    let s = c .before .before .before .before .before .before .before .before .before .before .before .before .before .before .before .before .before .before .before .before .before .args .text .now in
+    let e : length (c .before .before .before .before .before .before .before .before .before .before .before .before .before .run .last .1 .1 .0) ≡ length (c .before .before .before .before .before .before .before .before .before .before .before .before .before .before .before .before .before .before .before .before .before .args .out1 .now) = search needs in
+    let i = c .before .before .before .before .before .before .before .before .before .before .before .before .before .run .ensures in
+    let t = evening-part s (c .before .before .before .before .before .before .before .before .before .before .before .before .before .before .before .before .before .before .before .before .before .args .table1 .now) (c .before .before .before .before .before .before .before .before .before .before .before .before .before .before .before .before .before .before .before .before .before .args .out1 .now) (c .before .before .before .before .before .before .before .before .before .before .before .before .before .run .result) (c .before .before .before .before .before .before .before .before .before .before .before .before .before .run .last .1 .0) (c .before .before .before .before .before .before .before .before .before .before .before .before .before .run .last .1 .1 .0) (c .before .before .before .before .before .before .before .before .wrote-len .result) i (λ o l. c .before .before .before .before .before .before .before .before .wrote-len .ensures .1 o (l ∙ sym e)) e in
+    let j = run-on _ _ (c .before .before .before .before .before .before .before .before .before .before .before .before .before .before .before .before .before .before .before .before .before .args .table2 .now) (c .before .before .before .before .before .before .before .before .before .before .before .before .before .before .before .before .before .before .before .before .before .args .out2 .now) (c .before .before .before .before .run2 .result) (c .before .before .before .before .run2 .last .1 .0) (c .before .before .before .before .run2 .last .1 .1 .0) t (c .before .before .before .before .run2 .ensures) in
+    record { afternoon = i; evening = j; under-the-premises = λ u p m n. round.two-runs s u (c .before .before .before .before .before .before .before .before .before .before .before .before .before .before .before .before .before .before .before .before .before .args .table1 .now) (c .before .before .before .before .before .before .before .before .before .before .before .before .before .before .before .before .before .before .before .before .before .args .out1 .now) (c .before .before .before .before .before .before .before .before .before .before .before .before .before .before .before .before .before .before .before .before .before .args .table2 .now) (c .before .before .before .before .before .before .before .before .before .before .before .before .before .before .before .before .before .before .before .before .before .args .out2 .now) (c .before .before .before .before .before .before .before .before .before .before .before .before .before .run .result) (c .before .before .before .before .run2 .result) (c .before .before .before .before .before .before .before .before .before .before .before .before .before .run .last .1 .0) (c .before .before .before .before .before .before .before .before .before .before .before .before .before .run .last .1 .1 .0) (c .before .before .before .before .run2 .last .1 .0) (c .before .before .before .before .run2 .last .1 .1 .0) p m n i j }
+
+pub two-runs-spec : {M : Type 1} → statement M
+two-runs-spec =
+    tie.close
+    (tie.spec
+    run-requires
+    wrote-len-requires
+    slice-reshare-prefix-run
+    slice-aggregate-run
+    run-requires-2
+    same-length
+    same-length-2
+    same-length-3
+    same-length-4
+    returns)
