@@ -1,0 +1,29 @@
+use borrow.Author.Needs.{needs}
+use Rattle.eon_c.proofs.Words.{answered}
+use Rattle.eon_spec.specs.Calls.{outcomeOf}
+use Rattle.eon_c.specs.Words.{countWords}
+use Rattle.eon_c.proofs.eon_read.Statement.{statement}
+use Rattle.eon_c.proofs.eon_read.Tie as tie
+use Rattle.eon_c.proofs.eon_read.Reads as reads
+use Rattle.eon_c.proofs.eon_read.Lts as lts
+use Rattle.eon_c.proofs.count_words.Reads as count-words-reads
+use Rattle.eon_syntax.proofs.read.Reads as read-reads
+
+-- src/lib.rt:86:27
+read-requires : tie.Need-read-requires
+read-requires c κs = search needs
+
+-- src/lib.rt:86:15
+count-words-requires : tie.Need-count-words-requires
+count-words-requires c κs = search needs
+
+-- src/lib.rt:81:1
+same-length : tie.Need-same-length
+same-length c = search needs
+
+-- src/lib.rt:81:1
+returns : tie.Need-returns
+returns c = answered countWords _ (outcomeOf (c .before .before .before .read .result)) _ _ (c .count-words .ensures) (c .before .before .before .read .ensures)
+
+pub eon-read-spec : {M : Type 1} → statement M
+eon-read-spec = tie.close (tie.spec read-requires count-words-requires same-length returns)

@@ -1,0 +1,50 @@
+use borrow.Author.Needs.{needs}
+use mathlib.Core.Path.{_∙_, ap}
+use Rattle.eon_spec.specs.declared.FormatOptions.{FormatOptions}
+use Rattle.eon_spec.specs.Calls.{outcomeOf, reformatCall}
+use Rattle.eon_c.specs.Words.{countWords}
+use Rattle.eon_c.proofs.Words.{answered-both}
+use Rattle.eon_c.proofs.eon_reformat.Statement.{statement}
+use Rattle.eon_c.proofs.eon_reformat.Tie as tie
+use Rattle.eon_c.proofs.eon_reformat.Reads as reads
+use Rattle.eon_c.proofs.eon_reformat.Lts as lts
+use Rattle.eon_c.proofs.count_words.Reads as count-words-reads
+use Rattle.eon_c.proofs.options_of.Reads as options-of-reads
+use Rattle.eon_syntax.proofs.reformat.Reads as reformat-reads
+
+-- src/lib.rt:138:9
+options-of-requires : tie.Need-options-of-requires
+options-of-requires c κs = search needs
+
+-- src/lib.rt:139:27
+reformat-requires : tie.Need-reformat-requires
+reformat-requires c κs = search needs
+
+-- src/lib.rt:139:15
+count-words-requires : tie.Need-count-words-requires
+count-words-requires c κs = search needs
+
+-- src/lib.rt:122:1
+same-length : tie.Need-same-length
+same-length c = search needs
+
+-- src/lib.rt:122:1
+same-length-2 : tie.Need-same-length-2
+same-length-2 c = search needs
+
+-- src/lib.rt:122:1
+returns : tie.Need-returns
+returns c =
+    answered-both countWords _ (outcomeOf (c .before .before .before .before .before .reformat .result)) _ _ _ (c .count-words .ensures)
+    (c .before .before .before .before .before .reformat .ensures ∙ ap (λ (o : FormatOptions). reformatCall (c .before .before .before .before .before .before .before .before .before .before .before .before .before .before .before .before .args .text .now) (c .before .before .before .before .before .before .before .before .before .before .before .before .before .before .before .before .args .table .now) o (c .before .before .before .before .before .before .before .before .before .before .before .before .before .before .before .before .args .out .now)) (c .before .before .before .before .before .before .before .before .options-of .ensures))
+
+pub eon-reformat-spec : {M : Type 1} → statement M
+eon-reformat-spec =
+    tie.close
+    (tie.spec
+    options-of-requires
+    reformat-requires
+    count-words-requires
+    same-length
+    same-length-2
+    returns)

@@ -1,0 +1,33 @@
+use borrow.Author.Needs.{needs}
+use Rattle.eon_c.proofs.Words.{options-are}
+use Rattle.eon_c.proofs.options_of.Statement.{statement}
+use Rattle.eon_c.proofs.options_of.Tie as tie
+use Rattle.eon_c.proofs.options_of.Reads as reads
+use Rattle.eon_c.proofs.options_of.Lts as lts
+use Rattle.eon_spec.proofs.Setting.new.Reads as new-reads
+
+-- src/lib.rt:68:9
+new-requires : tie.Need-new-requires
+new-requires c κs = search needs
+
+-- src/lib.rt:69:9
+new-requires-2 : tie.Need-new-requires-2
+new-requires-2 c κs = search needs
+
+-- src/lib.rt:70:9
+new-requires-3 : tie.Need-new-requires-3
+new-requires-3 c κs = search needs
+
+-- src/lib.rt:71:9
+new-requires-4 : tie.Need-new-requires-4
+new-requires-4 c κs = search needs
+
+-- src/lib.rt:59:1
+returns : tie.Need-returns
+returns c =
+    options-are _ _ _ _ _ (c .before .before .before .before .before .before .before .before .args .indentation .now) (c .before .before .before .before .before .before .before .before .args .newline .now) (c .before .before .before .before .before .before .before .before .args .space .now) (c .before .before .before .before .before .before .before .before .args .separator .now)
+    (c .before .before .before .new .ensures) (c .before .before .new2 .ensures) (c .before .new3 .ensures) (c .new4 .ensures)
+
+pub options-of-spec : {M : Type 1} → statement M
+options-of-spec =
+    tie.close (tie.spec new-requires new-requires-2 new-requires-3 new-requires-4 returns)
