@@ -1,18 +1,18 @@
 -- What the loops need: one more byte of a span or of the automaton's run, and where single states go.
 use mathlib.Core.Path.{_≡_, refl, sym, ap, ap₂, subst, _∙_}
-use mathlib.Core.Bool.{Bool, true, false, _&&_, _||_, cond}
+use mathlib.Core.Bool.{Bool, true, false, not, _&&_, _||_, cond}
 use mathlib.Core.List.{List, [], _∷_}
 use Prim.Native.Nat.{ℕ, zero, suc, _+_, _-_, _≤_, _<_}
 use native.Mathlib.Nat.{le-of-suc-le-suc, not-suc-le-zero, add-zero}
 use native.Mathlib.Numerals.{add-one}
 use native.Mathlib.Omega.{arith}
-use borrow.Author.Tests.{lt-leb, le-leb, le-ltb, ne-eqb}
-use lib.Dec.{T, leb, ltb, eqb, eqb→eq}
+use borrow.Author.Tests.{lt-leb, le-leb, le-ltb, eq-eqb, ne-eqb}
+use lib.Dec.{T, leb, ltb, eqb, eqb→eq, lit<, lit≤}
 use lib.ListN.{length, getD, drop, drop-of-length-le}
 use lib.Seq.{drop-cons}
-use Rattle.eon_token.specs.Machine.{Found, miss, hit, class, states, goes, accepts, upd, run, spanOf, closedAt, Quote, dq, sq, oneS, insideS, twoS, multiS, plainK, multiK, finish, fromB}
+use Rattle.eon_token.specs.Machine.{Found, miss, hit, class, classes, states, goes, accepts, upd, run, spanOf, before, closedAt, Quote, dq, sq, oneS, insideS, twoS, multiS, plainK, multiK, finish, fromB}
 use Rattle.eon_token.specs.declared.token_kind.PlacedToken.{PlacedToken}
-use Rattle.eon_token.proofs.Tests.{below, below-at, class-small, and-left, and-right, or-false}
+use Rattle.eon_token.proofs.Tests.{below, below-at, eq?, class-small, outside?, alone-outside, and-left, and-right, or-false}
 
 module _ (text : List ℕ) (i : ℕ) where
   cons : i < length text → drop i text ≡ getD text i 0 ∷ drop (i + 1) text
@@ -29,6 +29,15 @@ module _ (text : List ℕ) (i : ℕ) where
 
   pub span-end : (lo hi : ℕ) → length text ≤ i → spanOf lo hi (drop i text) ≡ 0
   span-end lo hi h = rw (drop-of-length-le text h)
+
+  pub before-here : (b : ℕ) → i < length text → getD text i 0 ≡ b → before b (drop i text) ≡ 0
+  before-here b h e = rw (cons h) (simp (eq-eqb (getD text i 0) b e))
+
+  pub before-on : (b : ℕ) → i < length text → (getD text i 0 ≡ b → ⊥) → before b (drop i text) ≡ suc (before b (drop (i + 1) text))
+  before-on b h p = rw (cons h) (simp (ne-eqb (getD text i 0) b p))
+
+  pub before-end : (b : ℕ) → length text ≤ i → before b (drop i text) ≡ 0
+  before-end b h = rw (drop-of-length-le text h)
 
   pub run-in : (n : ℕ) (best : Found) → i < length text → run n best i (drop i text) ≡ run (goes n (class (getD text i 0))) (upd (accepts n) best i) (i + 1) (drop (i + 1) text)
   run-in n best h = ap (run n best i) (cons h)
@@ -126,11 +135,6 @@ module _ (text : List ℕ) (i : ℕ) (h : i < length text) where
 pub closed-suc : (k i : ℕ) → closedAt k (i + 1) ≡ hit k (i + 1)
 closed-suc k i = rw add-one
 
--- the state inside double quotes, by whether a backslash was read last
-abbrev pub escS : ℕ → ℕ
-escS zero = 16
-escS (suc e) = 18
-
 -- inside three quotes of class q, of which n were read last
 multi? : ℕ → ℕ → ℕ → Bool
 multi? q n k = eqb k q || eqb (goes (multiS q n) k) (multiS q 0)
@@ -180,6 +184,23 @@ module _ {q : ℕ} (quote : Quote q) (n : ℕ) (small : n < 3) where
 
     pub multi-end : length text ≤ i → run (multiS q n) miss i (drop i text) ≡ miss
     multi-end h = run-end text i (multiS q n) miss h ∙ ap (λ (a : ℕ). upd a miss i) quiet
+
+-- the bytes before the first b are those of the classes lo to hi, if b alone has another
+before-span : (b lo hi : ℕ) → ((c : ℕ) → eqb c b ≡ not (leb lo (class c) && leb (class c) hi)) → (l : List ℕ) → before b l ≡ spanOf lo hi l
+before-span b lo hi f [] = refl
+before-span b lo hi f (c ∷ l) = ap (λ (t : Bool). cond t 0 (suc (before b l))) (f c) ∙ at (leb lo (class c) && leb (class c) hi) (before-span b lo hi f l)
+  where
+    at : (t : Bool) → before b l ≡ spanOf lo hi l → cond (not t) 0 (suc (before b l)) ≡ cond t (suc (spanOf lo hi l)) 0
+    at true e = ap suc e
+    at false e = refl
+
+pub before-feed : (l : List ℕ) → before 10 l ≡ spanOf 1 18 l
+unfolding outside? eq? class classes
+before-feed = before-span 10 1 18 (alone-outside 10 1 18 tt (lit< tt) (lit≤ tt) (lit≤ tt))
+
+pub before-single : (l : List ℕ) → before 39 l ≡ spanOf 0 17 l
+unfolding outside? eq? class classes
+before-single = before-span 39 0 17 (alone-outside 39 0 17 tt (lit< tt) (lit≤ tt) (lit≤ tt))
 
 -- a state that stays on the classes lo to hi, and leaves for good on the others
 unfoldable pub stays? : ℕ → ℕ → ℕ → ℕ → Bool

@@ -100,6 +100,11 @@ abbrev pub spanOf : ℕ → ℕ → List ℕ → ℕ
 spanOf lo hi [] = zero
 spanOf lo hi (b ∷ bs) = cond (leb lo (class b) && leb (class b) hi) (suc (spanOf lo hi bs)) zero
 
+-- how many bytes stand before the first b
+abbrev pub before : ℕ → List ℕ → ℕ
+before b [] = zero
+before b (c ∷ cs) = cond (eqb c b) zero (suc (before b cs))
+
 -- the end of a string of kind k, or 0 for none
 abbrev pub closedAt : ℕ → ℕ → Found
 closedAt k zero = miss

@@ -24,22 +24,31 @@ shared-slice-read-if1 c = omega (arith, c .before .before .loop .inv .1, c .befo
 
 returns : tie.Need-returns Inv-loop μ-loop
 returns c =
-    sym (sym (c .before .before .before .loop .inv .2) ∙ feed-more (now (c .before .before .before .before .args .text)) (c .before .before .before .loop .i) (c .before .before .before .before .args .b) (c .before .before .loop-test .taken) (c .before .before .before .before .pre .1) ∙ rw (eqb-sym 10 (getD (now (c .before .before .before .before .args .text)) (c .before .before .before .loop .i) 0) ∙ eq-eqb _ _ (c .if1 .taken)))
+    let args = c .before .before .before .before .args in
+    let pre = c .before .before .before .before .pre in
+    let loop = c .before .before .before .loop in
+    sym (sym (loop .inv .2) ∙ feed-more (now (args .text)) (loop .i) (args .b) (c .before .before .loop-test .taken) (pre .1) ∙ rw (eqb-sym 10 (getD (now (args .text)) (loop .i) 0) ∙ eq-eqb _ _ (c .if1 .taken)))
 
 add-i : tie.Need-add-i Inv-loop μ-loop
-add-i c = omega (arith, c .before .before .before .loop .inv .1, c .before .before .before .before .pre .1)
+add-i c =
+    let pre = c .before .before .before .before .pre in
+    omega (arith, c .before .before .before .loop .inv .1, pre .1)
 
 loop-less : tie.Need-loop-less Inv-loop μ-loop
 loop-less c = omega arith
 
 loop-again : tie.Need-loop-again Inv-loop μ-loop
 loop-again c =
-    (omega (arith, c .before .before .before .loop .inv .0), omega arith, sym (feed-more (now (c .before .before .before .before .args .text)) (c .before .before .before .loop .i) (c .before .before .before .before .args .b) (c .before .before .loop-test .taken) (c .before .before .before .before .pre .1) ∙ rw (eqb-sym 10 (getD (now (c .before .before .before .before .args .text)) (c .before .before .before .loop .i) 0) ∙ ne-eqb _ _ (c .if1 .left))) ∙ c .before .before .before .loop .inv .2)
+    let args = c .before .before .before .before .args in
+    let pre = c .before .before .before .before .pre in
+    let loop = c .before .before .before .loop in
+    (omega (arith, loop .inv .0), omega arith, sym (feed-more (now (args .text)) (loop .i) (args .b) (c .before .before .loop-test .taken) (pre .1) ∙ rw (eqb-sym 10 (getD (now (args .text)) (loop .i) 0) ∙ ne-eqb _ _ (c .if1 .left))) ∙ loop .inv .2)
 
 returns-2 : tie.Need-returns-2 Inv-loop μ-loop
 returns-2 c =
-    let e : c .before .loop .i ≡ c .before .before .args .b = omega (arith, c .before .loop .inv .1, c .loop-test .left) in
-    feed-none (now (c .before .before .args .text)) (c .before .before .args .b) ∙ ap (λ (i : ℕ). lineFeed (now (c .before .before .args .text)) i (c .before .before .args .b)) (sym e) ∙ c .before .loop .inv .2
+    let args = c .before .before .args in
+    let e : c .before .loop .i ≡ args .b = omega (arith, c .before .loop .inv .1, c .loop-test .left) in
+    feed-none (now (args .text)) (args .b) ∙ ap (λ (i : ℕ). lineFeed (now (args .text)) i (args .b)) (sym e) ∙ c .before .loop .inv .2
 
 pub line-feed-spec : {M : Type 1} → statement M
 line-feed-spec =

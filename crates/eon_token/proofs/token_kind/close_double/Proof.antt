@@ -1,90 +1,94 @@
--- `eon_token::token_kind::close_double` meets its contract: the automaton's run from i on, in the state inside the string or after a backslash, is its run from `from` on.
+-- `eon_token::token_kind::close_double` meets its contract: the automaton's run from i on, inside the string, is its run from `from` on.
 use mathlib.Core.Path.{_≡_, refl, sym, ap, _∙_}
-use Prim.Native.Nat.{ℕ, zero, suc, _+_, _-_, _≤_}
+use Prim.Native.Nat.{ℕ, _+_, _-_, _≤_}
 use native.Mathlib.Omega.{arith}
 use borrow.Author.Needs.{needs}
 use lib.ListN.{length, drop, getD}
-use Rattle.eon_token.specs.Machine.{miss, class, run, upd, accepts, states}
-use Rattle.eon_token.proofs.Steps.{escS, dq-close, dq-escape, dq-on, esc-stop, esc-on, run-end, closed-suc}
+use Rattle.eon_token.specs.Machine.{miss, class, classes, run, accepts, states}
+use Rattle.eon_token.proofs.Tests.{only-feed, only-double, only-backslash}
+use Rattle.eon_token.proofs.Steps.{dq-close, dq-escape, dq-on, esc-stop, esc-on, run-end, closed-suc}
 use Rattle.eon_token.proofs.token_kind.close_double.Statement.{statement}
 use Rattle.eon_token.proofs.token_kind.close_double.Tie as tie
 
 abbrev Inv-loop : tie.InvT-loop
-Inv-loop text from i₀ escaped₀ i escaped =
-    (i ≤ length text) × (escaped ≤ 1) × (run 16 miss from (drop from text) ≡ run (escS escaped) miss i (drop i text))
+Inv-loop text from i₀ i = (i ≤ length text) × (run 16 miss from (drop from text) ≡ run 16 miss i (drop i text))
 
 abbrev μ-loop : tie.MeasureT-loop
-μ-loop text from i₀ escaped₀ i escaped = length text - i
+μ-loop text from i₀ i = length text - i
 
 loop-holds : tie.Need-loop-holds Inv-loop μ-loop
-loop-holds c = (search needs, search needs, refl)
+loop-holds c = (search needs, refl)
 
-shared-slice-read-class : tie.Need-shared-slice-read-class Inv-loop μ-loop
-shared-slice-read-class c = omega arith
+shared-slice-read-if1 : tie.Need-shared-slice-read-if1 Inv-loop μ-loop
+shared-slice-read-if1 c = omega arith
 
-class-requires : tie.Need-class-requires Inv-loop μ-loop
-class-requires c κs = search needs
+add-result : tie.Need-add-result Inv-loop μ-loop
+add-result c = omega arith
+
+returns : tie.Need-returns Inv-loop μ-loop
+unfolding class classes
+returns c =
+    let args = c .before .before .before .before .args in
+    let s = args .text .now in
+    let l = c .before .before .before .loop in
+    l .inv .1 ∙ dq-close s (l .i) (omega arith) (ap class (c .if1 .taken)) ∙ sym (closed-suc 12 (l .i))
+
+shared-slice-read-if2 : tie.Need-shared-slice-read-if2 Inv-loop μ-loop
+shared-slice-read-if2 c = omega arith
 
 add-i : tie.Need-add-i Inv-loop μ-loop
 add-i c = omega arith
-
-returns : tie.Need-returns Inv-loop μ-loop
-returns c =
-    let a = c .before .before .before .before .before .before .before .args in
-    let l = c .before .before .before .before .before .loop in
-    let e : class (getD (a .text .now) (l .i) 0) ≡ c .before .before .class .result = sym (c .before .before .class .ensures) in
-    l .inv .2 ∙ ap (λ (e : ℕ). run (escS e) miss (l .i) (drop (l .i) (a .text .now))) (c .before .if1 .taken) ∙ esc-stop (a .text .now) (l .i) (omega arith) (e ∙ c .if2 .taken)
 
 loop-less : tie.Need-loop-less Inv-loop μ-loop
 loop-less c = omega arith
 
 loop-again : tie.Need-loop-again Inv-loop μ-loop
 loop-again c =
-    let a = c .before .before .before .before .before .before .before .args in
+    let args = c .before .before .before .before .before .before .args in
+    let s = args .text .now in
     let l = c .before .before .before .before .before .loop in
-    let e : class (getD (a .text .now) (l .i) 0) ≡ c .before .before .class .result = sym (c .before .before .class .ensures) in
-    (omega arith, omega arith, l .inv .2 ∙ ap (λ (e : ℕ). run (escS e) miss (l .i) (drop (l .i) (a .text .now))) (c .before .if1 .taken) ∙ esc-on (a .text .now) (l .i) (omega arith) (omega arith))
+    let b = getD s (l .i) 0 in
+    (omega arith, l .inv .1 ∙ dq-on s (l .i) (omega arith) (λ e. c .before .before .if1 .left (only-double b e)) (λ e. c .if2 .taken (only-backslash b e)))
+
+add-taken : tie.Need-add-taken Inv-loop μ-loop
+add-taken c = omega arith
 
 returns-2 : tie.Need-returns-2 Inv-loop μ-loop
+unfolding class classes accepts states
 returns-2 c =
-    let a = c .before .before .before .before .before .before .before .args in
-    let l = c .before .before .before .before .before .loop in
-    let e : class (getD (a .text .now) (l .i) 0) ≡ c .before .before .class .result = sym (c .before .before .class .ensures) in
-    let z : l .escaped ≡ 0 = omega arith in
-    l .inv .2 ∙ ap (λ (e : ℕ). run (escS e) miss (l .i) (drop (l .i) (a .text .now))) (z) ∙ dq-close (a .text .now) (l .i) (omega arith) (e ∙ c .if3 .taken) ∙ sym (closed-suc 12 (l .i))
+    let args = c .before .before .before .before .before .before .before .args in
+    let s = args .text .now in
+    let l = c .before .before .before .before .before .before .loop in
+    l .inv .1 ∙ dq-escape s (l .i) (omega arith) (ap class (c .before .if2 .left)) ∙ run-end s (l .i + 1) 18 miss (omega arith)
+
+shared-slice-read-if4 : tie.Need-shared-slice-read-if4 Inv-loop μ-loop
+shared-slice-read-if4 c = omega arith
+
+returns-3 : tie.Need-returns-3 Inv-loop μ-loop
+unfolding class classes
+returns-3 c =
+    let args = c .before .before .before .before .before .before .before .before .before .args in
+    let s = args .text .now in
+    let l = c .before .before .before .before .before .before .before .before .loop in
+    l .inv .1 ∙ dq-escape s (l .i) (omega arith) (ap class (c .before .before .before .if2 .left)) ∙ esc-stop s (l .i + 1) (omega arith) (ap class (c .if4 .taken))
+
+add-i-2 : tie.Need-add-i-2 Inv-loop μ-loop
+add-i-2 c = omega arith
 
 loop-less-2 : tie.Need-loop-less-2 Inv-loop μ-loop
 loop-less-2 c = omega arith
 
 loop-again-2 : tie.Need-loop-again-2 Inv-loop μ-loop
+unfolding class classes
 loop-again-2 c =
-    let a = c .before .before .before .before .before .before .before .before .args in
-    let l = c .before .before .before .before .before .before .loop in
-    let e : class (getD (a .text .now) (l .i) 0) ≡ c .before .before .before .class .result = sym (c .before .before .before .class .ensures) in
-    let z : l .escaped ≡ 0 = omega arith in
-    (omega arith, omega arith, l .inv .2 ∙ ap (λ (e : ℕ). run (escS e) miss (l .i) (drop (l .i) (a .text .now))) (z) ∙ dq-escape (a .text .now) (l .i) (omega arith) (e ∙ c .if4 .taken))
+    let args = c .before .before .before .before .before .before .before .before .before .args in
+    let s = args .text .now in
+    let l = c .before .before .before .before .before .before .before .before .loop in
+    (omega arith, l .inv .1 ∙ dq-escape s (l .i) (omega arith) (ap class (c .before .before .before .if2 .left)) ∙ esc-on s (l .i + 1) (omega arith) (λ e. c .if4 .left (only-feed (getD s (l .i + 1) 0) e)))
 
-loop-less-3 : tie.Need-loop-less-3 Inv-loop μ-loop
-loop-less-3 c = omega arith
-
-loop-again-3 : tie.Need-loop-again-3 Inv-loop μ-loop
-loop-again-3 c =
-    let a = c .before .before .before .before .before .before .before .before .args in
-    let l = c .before .before .before .before .before .before .loop in
-    let e : class (getD (a .text .now) (l .i) 0) ≡ c .before .before .before .class .result = sym (c .before .before .before .class .ensures) in
-    let z : l .escaped ≡ 0 = omega arith in
-    (omega arith, omega arith, l .inv .2 ∙ ap (λ (e : ℕ). run (escS e) miss (l .i) (drop (l .i) (a .text .now))) (z) ∙ dq-on (a .text .now) (l .i) (omega arith) (omega arith) (omega arith) ∙ sym (ap (λ (e : ℕ). run (escS e) miss (l .i + 1) (drop (l .i + 1) (a .text .now))) (z)))
-
-ends : (e i : ℕ) → upd (accepts (escS e)) miss i ≡ miss
+returns-4 : tie.Need-returns-4 Inv-loop μ-loop
 unfolding accepts states
-ends zero i = refl
-ends (suc e) i = refl
-
-returns-3 : tie.Need-returns-3 Inv-loop μ-loop
-returns-3 c =
-    let a = c .before .before .before .args in
-    let l = c .before .loop in
-    l .inv .2 ∙ run-end (a .text .now) (l .i) (escS (l .escaped)) miss (omega arith) ∙ ends (l .escaped) (l .i)
+returns-4 c = c .before .loop .inv .1 ∙ run-end (c .before .before .args .text .now) (c .before .loop .i) 16 miss (omega arith)
 
 pub close-double-spec : {M : Type 1} → statement M
 close-double-spec =
@@ -93,15 +97,18 @@ close-double-spec =
     Inv-loop
     μ-loop
     loop-holds
-    shared-slice-read-class
-    class-requires
-    add-i
+    shared-slice-read-if1
+    add-result
     returns
+    shared-slice-read-if2
+    add-i
     loop-less
     loop-again
+    add-taken
     returns-2
+    shared-slice-read-if4
+    returns-3
+    add-i-2
     loop-less-2
     loop-again-2
-    loop-less-3
-    loop-again-3
-    returns-3)
+    returns-4)

@@ -61,8 +61,9 @@ stray-requires c κs = search needs
 
 returns-7 : tie.Need-returns-7
 returns-7 c =
+    let class = c .before .before .before .before .before .before .before .before .class in
     let a = c .before .before .before .before .before .before .before .before .before .before .before .args in
-    let k = c .before .before .before .before .before .before .before .before .class .result in
+    let k = class .result in
     ran (a .text .now) (a .start) (c .stray .result) _ (c .stray .ensures) (nothing-starts (a .text .now) (a .start) (omega arith) k (omega arith) (omega arith) (omega arith) (omega arith) (omega arith) (omega arith) (omega arith))
 
 cast-kind : tie.Need-cast-kind
@@ -76,8 +77,9 @@ add-end c = search needs
 
 returns-8 : tie.Need-returns-8
 returns-8 c =
+    let class = c .before .before .before .before .before .before .before .class in
     let a = c .before .before .before .before .before .before .before .before .before .before .args in
-    let k = c .before .before .before .before .before .before .before .class .result in
+    let k = class .result in
     found (a .text .now) (a .start) (k - 8) (k - 8) (a .start + 1) refl (punct (a .text .now) (a .start) (omega arith) k (omega arith) (omega arith) (omega arith))
 
 pub lexeme-spec : {M : Type 1} → statement M

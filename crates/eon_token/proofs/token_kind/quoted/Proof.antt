@@ -39,9 +39,10 @@ stray-requires-2 c κs = search needs
 
 returns-3 : tie.Need-returns-3
 returns-3 c =
+    let class = c .before .before .before .before .class in
     let s = c .before .before .before .before .before .before .before .before in
     let a = s .args in
-    ran (a .text .now) (a .start) (c .stray2 .result) _ (c .stray2 .ensures) (q-in (s .pre .1) (a .text .now) (a .start) (omega arith) (s .pre .3) (omega arith) (λ p. c .before .before .before .if2 .left (c .before .before .before .before .class .ensures ∙ p)) ∙ closed-zero (plainK (a .q)) _ _ (c .before .before .close-one .ensures) (c .before .if3 .taken))
+    ran (a .text .now) (a .start) (c .stray2 .result) _ (c .stray2 .ensures) (q-in (s .pre .1) (a .text .now) (a .start) (omega arith) (s .pre .3) (omega arith) (λ p. c .before .before .before .if2 .left (class .ensures ∙ p)) ∙ closed-zero (plainK (a .q)) _ _ (c .before .before .close-one .ensures) (c .before .if3 .taken))
 
 returns-4 : tie.Need-returns-4
 returns-4 c =

@@ -35,11 +35,12 @@ returns c =
 
 returns-2 : tie.Need-returns-2 Inv-loop μ-loop
 returns-2 c =
+    let its-class = c .before .before .class in
     let at-call = c .before .before .before in
     let at-loop = at-call .before .before in
     let a = at-loop .before .before .args in
     let i = at-loop .loop .i in
-    let e : c .before .before .class .result ≡ class (getD (a .text .now) i 0) = c .before .before .class .ensures in
+    let e : its-class .result ≡ class (getD (a .text .now) i 0) = its-class .ensures in
     let out : spanOf (a .lo) (a .hi) (drop i (a .text .now)) ≡ 0 = span-high (a .text .now) i (a .lo) (a .hi) (omega arith) (omega arith) (omega arith) in
     (omega arith, search needs)
 
@@ -51,11 +52,12 @@ loop-less c = omega arith
 
 loop-again : tie.Need-loop-again Inv-loop μ-loop
 loop-again c =
+    let its-class = c .before .before .class in
     let at-call = c .before .before .before in
     let at-loop = at-call .before .before in
     let a = at-loop .before .before .args in
     let i = at-loop .loop .i in
-    let e : c .before .before .class .result ≡ class (getD (a .text .now) i 0) = c .before .before .class .ensures in
+    let e : its-class .result ≡ class (getD (a .text .now) i 0) = its-class .ensures in
     let on : spanOf (a .lo) (a .hi) (drop i (a .text .now)) ≡ suc (spanOf (a .lo) (a .hi) (drop (i + 1) (a .text .now))) = span-in (a .text .now) i (a .lo) (a .hi) (omega arith) (omega arith) (omega arith) in
     (search needs, omega arith)
 

@@ -46,8 +46,9 @@ returns-3 c =
 
 add-kind : tie.Need-add-kind
 add-kind c =
-    let p = plain-small (c .before .before .before .before .before .before .before .pre .1) in
-    let e = c .before .before .before .before .before .before .before .pre .2 in
+    let pre = c .before .before .before .before .before .before .before .pre in
+    let p = plain-small (pre .1) in
+    let e = pre .2 in
     omega arith
 
 returns-4 : tie.Need-returns-4
