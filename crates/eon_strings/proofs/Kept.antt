@@ -1,19 +1,20 @@
 -- The characters of a text without carriage returns, one by one.
 use mathlib.Core.Path.{_≡_, refl, sym, ap, _∙_}
-use mathlib.Core.Bool.{true, false}
+use mathlib.Core.Bool.{false}
 use mathlib.Core.List.{List, [], _∷_, map}
 use Prim.Native.Nat.{ℕ, zero, suc, _+_, _-_, _≤_, _<_}
 use native.Mathlib.Omega.{arith}
 use native.Mathlib.Decide.{decLe}
 use borrow.Author.Tests.{eq-eqb, ne-eqb}
 use lib.Dec.{eqb}
-use lib.ListN.{length, drop, take, replicate, drop-of-length-le}
-use lib.Seq.{drop-drop, drop-nil, take-nil}
-use Rattle.eon_spec.specs.Base.{elem, eqList}
-use Rattle.eon_spec.specs.Utf8.{charLen, charsFrom, chars, decode, codePoint, Character}
+use lib.ListN.{length, getD, drop, take, replicate, length-drop, drop-of-length-le}
+use lib.Seq.{drop-cons, drop-drop, drop-nil, take-nil}
+use Rattle.eon_spec.specs.Base.{eqList}
+use Rattle.eon_spec.specs.Utf8.{charLen, charsFrom, chars, decode, codePoint, Character, wellFormedLen}
 use Rattle.eon_spec.specs.Unquote.{without}
-use Rattle.eon_strings.specs.Views.{kept, NextIs}
-use Rattle.eon_strings.proofs.Bytes.{and-true, and-false, or-true, or-false}
+use Rattle.eon_strings.specs.Views.{kept, Formed, NextIs}
+use Rattle.eon_utf8.proofs.Formed.{formed-on, ascii-len}
+use Rattle.eon_strings.proofs.Bytes.{and-true, and-false}
 
 chars-skip : (k : ℕ) (s : List ℕ) → charsFrom k s ≡ charsFrom 0 (drop k s)
 unfolding charsFrom
@@ -61,11 +62,21 @@ module _ (s : List ℕ) (i : ℕ) where
   kept-more (suc k) c e z p q =
       ap (without 13) (decode-on k e ∙ ap (λ (x : ℕ). x ∷ decode (drop (i + suc k) s)) (sym p)) ∙ without-other c (decode (drop (i + suc k) s)) q
 
-  pub next-none : i ≤ length s → kept s i ≡ [] → NextIs s i 0 i
-  next-none h e = record { none-left = λ z. e; one-more = λ n. absurd (n refl); onward = omega arith; inside = h; small = omega arith }
+  pub kept-ascii : i < length s → getD s i 0 < 0x80 → (getD s i 0 ≡ 13 → ⊥) → kept s i ≡ getD s i 0 ∷ kept s (i + 1)
+  kept-ascii h k n = kept-more 1 (getD s i 0) (ascii-len s i h k) (λ z. omega arith) (rw (drop-cons s i 0 h)) n
 
-  pub next-one : (c e : ℕ) → i < e → e ≤ length s → c < 0x200000 → kept s i ≡ c ∷ kept s e → NextIs s i c e
-  next-one c e h k l p = record { none-left = λ z. absurd (omega arith); one-more = λ n. p; onward = omega arith; inside = k; small = l }
+  pub formed-step : (n : ℕ) → n ≡ charLen (drop i s) → n ≤ length s - i → Formed (drop i s) → Formed (drop (i + n) s)
+  unfolding wellFormedLen
+  formed-step n e h f = omega (arith, formed-on s i n e, length-drop i s, length-drop (i + n) s)
+
+  pub next-none : i ≤ length s → kept s i ≡ [] → NextIs s i 0 i
+  next-none h e = record { none-left = λ z. e; one-more = λ n. absurd (n refl); onward = omega arith; inside = h; small = omega arith; formed = λ f. f }
+
+  pub next-one : (c e : ℕ) → i < e → e ≤ length s → c < 0x200000 → kept s i ≡ c ∷ kept s e → (Formed (drop i s) → Formed (drop e s)) → NextIs s i c e
+  next-one c e h k l p g = record { none-left = λ z. absurd (omega arith); one-more = λ n. p; onward = omega arith; inside = k; small = l; formed = g }
+
+  pub next-ascii : i < length s → getD s i 0 < 0x80 → (getD s i 0 ≡ 13 → ⊥) → NextIs s i (getD s i 0) (i + 1)
+  next-ascii h k n = next-one (getD s i 0) (i + 1) (omega arith) (omega arith) (omega arith) (kept-ascii h k n) (formed-step 1 (ascii-len s i h k) (omega arith))
 
 -- the next m characters
 module _ (s : List ℕ) (i c e n m : ℕ) (x : NextIs s i c e) (l : n ≡ suc m) where
@@ -78,18 +89,6 @@ module _ (s : List ℕ) (i c e n m : ℕ) (x : NextIs s i c e) (l : n ≡ suc m)
           let z : kept s i ≡ [] = x .none-left y in
           rw (l, y, z) (sym (drop-nil m))
       go (no h) = rw (l, x .one-more λ y. h (omega arith))
-
-  pub elem-next : (e ≡ i → ⊥) → (c ≡ 10 → ⊥) → elem 10 (take n (kept s i)) ≡ elem 10 (take m (kept s e))
-  elem-next h k = rw (l, x .one-more h) (or-false (eqb 10 c) (elem 10 (take m (kept s e))) (ne-eqb 10 c λ y. k (sym y)))
-
-  pub elem-here : (e ≡ i → ⊥) → c ≡ 10 → elem 10 (take n (kept s i)) ≡ true
-  elem-here h k = rw (l, x .one-more h) (or-true (eqb 10 c) (elem 10 (take m (kept s e))) (eq-eqb 10 c (sym k)))
-
-  pub elem-none : e ≡ i → elem 10 (take n (kept s i)) ≡ false
-  elem-none h = rw (x .none-left h, take-nil n)
-
-  pub length-next : (e ≡ i → ⊥) → length (kept s i) ≡ suc (length (kept s e))
-  length-next h = rw (x .one-more h)
 
   pub quote-next : (q : ℕ) → (e ≡ i → ⊥) → c ≡ q → eqList (take n (kept s i)) (replicate n q) ≡ eqList (take m (kept s e)) (replicate m q)
   quote-next q h k = rw (l, x .one-more h) (and-true (eqb c q) (eqList (take m (kept s e)) (replicate m q)) (eq-eqb c q k))

@@ -1,37 +1,27 @@
 -- Marks, and what stands between them.
-use mathlib.Core.Path.{_≡_, refl, sym, ap, _∙_}
+use mathlib.Core.Path.{_≡_, refl, ap, _∙_}
 use mathlib.Core.Bool.{Bool, true, false, cond}
 use mathlib.Core.List.{List, [], _∷_}
-use Prim.Native.Nat.{ℕ, suc, _-_, _≤_, _<_}
+use Prim.Native.Nat.{ℕ, _-_}
 use native.Mathlib.Omega.{arith}
-use borrow.Author.Tests.{ne-eqb, le-leb, lt-leb}
-use lib.Dec.{leb}
-use lib.ListN.{length, drop, take, replicate, length-replicate, length-drop}
-use lib.Seq.{take-all, take-nil}
-use Rattle.eon_spec.specs.Base.{elem, eqList}
-use Rattle.eon_spec.specs.Unquote.{value, fault, unescape, plain, endsWith, oneLineOnly, dropLineFeed, unquoteChars}
+use borrow.Author.Tests.{ne-eqb, eqb-true}
+use lib.Dec.{eqb}
+use lib.ListN.{length, drop, take, replicate}
+use Rattle.eon_spec.specs.Base.{elem, eqList, codes}
+use Rattle.eon_spec.specs.Unquote.{value, fault, unescape, plain, startsWith, endsWith, oneLineOnly, dropLineFeed, unquoteChars}
 use Rattle.eon_spec.specs.Unquote as unquoting
-use Rattle.eon_strings.specs.Views.{readsBy, modeOf, content, marked, BetweenIs}
+use Rattle.eon_strings.specs.Views.{kept, readsBy, modeOf, content, marked}
+use Rattle.eon_laws.proofs.Facts.{clash}
+use Rattle.eon_strings.proofs.Kept.{kept-ascii}
 use Rattle.eon_strings.specs.declared.Mode.{Mode}
 use Rattle.eon_strings.specs.declared.Mode.the-variants.{Literal, Plain}
-use Rattle.eon_strings.proofs.Bytes.{and-false}
 
 module _ (u : List ℕ) (q n : ℕ) where
-  pub too-short : length u < n → BetweenIs u q n false 0
-  too-short h = record { is = sym (rw (length-replicate n q) (and-false (leb n (length u)) _ (lt-leb n (length u) h))); before = omega arith }
-
-  last : (k : ℕ) → n ≤ length u → k ≡ length u - n → eqList (take n (drop k u)) (replicate n q) ≡ endsWith (replicate n q) u
-  last k h e =
-      rw (length-replicate n q, le-leb n (length u) h, ← e, take-all n (drop k u) (omega (arith, length-drop k u)))
-
-  pub closing : (k : ℕ) (b : Bool) (v : List ℕ) → n ≤ length u → k ≡ length u - n → v ≡ drop k u → b ≡ eqList (take n v) (replicate n q) → BetweenIs u q n b k
-  closing k b v h e p f = record { is = f ∙ ap (λ (w : List ℕ). eqList (take n w) (replicate n q)) p ∙ last k h e; before = e }
-
   pub open-mark : endsWith (replicate n q) u ≡ false → marked q n u ≡ fault 18
   open-mark e = rw (e, marked)
 
-  pub closed-mark : endsWith (replicate n q) u ≡ true → marked q n u ≡ content q n (take (length u - n) u)
-  closed-mark e = rw (e, marked)
+  pub closed-mark : (t : List ℕ) → endsWith (replicate n q) u ≡ true → take (length u - n) u ≡ t → marked q n u ≡ content q n t
+  closed-mark t e f = rw (e, marked) (ap (content q n) f)
 
 mode-basic : (q : ℕ) → (q ≡ 39 → ⊥) → modeOf q ≡ Plain
 mode-basic q f = rw (ne-eqb q 39 f, modeOf)
@@ -77,8 +67,17 @@ module _ (u : List ℕ) where
   pub no-mark : quotes 39 3 u ≡ false → quotes 39 1 u ≡ false → quotes 34 3 u ≡ false → quotes 34 1 u ≡ false → unquoteChars u ≡ fault 17
   no-mark a b d e = unquote-tried u ∙ rw a (rw b (rw d (rw e)))
 
-pub inner-mark : (u : List ℕ) (q n k : ℕ) → endsWith (replicate n q) u ≡ true → k ≡ length u - n → marked q n u ≡ content q n (take k u)
-inner-mark u q n k e f = closed-mark u q n e ∙ ap (λ (j : ℕ). content q n (take j u)) (sym f)
+-- no single quote is read first, so none stands first
+pub no-single : (s : List ℕ) → quotes 39 1 (kept s 0) ≡ false → startsWith (codes "'") s ≡ false
+no-single [] e = refl
+no-single (b ∷ t) e = go (eqb b 39) refl
+  where
+    first : b ≡ 39 → quotes 39 1 (kept (b ∷ t) 0) ≡ true
+    first g = rw (kept-ascii (b ∷ t) 0 (omega arith) (omega arith) (λ z. omega arith)) (rw g)
+
+    go : (p : Bool) → eqb b 39 ≡ p → startsWith (codes "'") (b ∷ t) ≡ false
+    go true f = clash (first (eqb-true b 39 f)) e
+    go false f = rw f
 
 -- a line feed in a one-line string
 module _ (f : List ℕ → unquoting.Unescaped) (t : List ℕ) where
@@ -89,15 +88,12 @@ module _ (f : List ℕ → unquoting.Unescaped) (t : List ℕ) where
   no-feed e = rw (e, oneLineOnly)
 
 -- the leading line feed
-module _ (u : List ℕ) (n : ℕ) where
-  pub drop-empty : n ≡ 0 → value (dropLineFeed (take n u)) ≡ value (take 0 u)
-  drop-empty e = rw e
+module _ (u : List ℕ) where
+  pub drop-none : u ≡ [] → value (dropLineFeed u) ≡ value u
+  drop-none e = rw e
 
-  pub drop-none : u ≡ [] → value (dropLineFeed (take n u)) ≡ value (take n u)
-  drop-none e = rw (e, take-nil n)
+  pub drop-feed : (c : ℕ) (v : List ℕ) → u ≡ c ∷ v → c ≡ 10 → value (dropLineFeed u) ≡ value v
+  drop-feed c v e f = rw (e, f)
 
-  pub drop-feed : (c : ℕ) (v : List ℕ) (k : ℕ) → u ≡ c ∷ v → c ≡ 10 → n ≡ suc k → value (dropLineFeed (take n u)) ≡ value (take k v)
-  drop-feed c v k e f g = rw (e, g, f)
-
-  pub drop-other : (c : ℕ) (v : List ℕ) (k : ℕ) → u ≡ c ∷ v → (c ≡ 10 → ⊥) → n ≡ suc k → value (dropLineFeed (take n u)) ≡ value (take n u)
-  drop-other c v k e f g = rw (e, g) (ap value (rw (ne-eqb c 10 f, dropLineFeed)))
+  pub drop-other : (c : ℕ) (v : List ℕ) → u ≡ c ∷ v → (c ≡ 10 → ⊥) → value (dropLineFeed u) ≡ value u
+  drop-other c v e f = rw e (ap value (rw (ne-eqb c 10 f, dropLineFeed)))

@@ -6,12 +6,12 @@ use native.Mathlib.Omega.{arith}
 use native.Mathlib.Numerals.{add-one}
 use native.Mathlib.Nat.{add-zero}
 use borrow.Author.Tests.{lt-ltb, le-ltb}
-use lib.ListN.{length, take, set, length-append}
-use lib.Seq.{sets, take-nil}
+use lib.ListN.{length, set, length-append}
+use lib.Seq.{sets}
 use Rattle.eon_spec.specs.Utf8.{encodeChar, encode}
 use Rattle.eon_spec.specs.Unquote.{value, fault, push, unescape}
 use Rattle.eon_spec.specs.Unquote as unquoting
-use Rattle.eon_strings.specs.Views.{kept, NextIs, readsBy, onward, endOf, Reads, GoodMode, GoodStep, FoundIs}
+use Rattle.eon_strings.specs.Views.{kept, NextIs, readsBy, onward, endOf, Reads, GoodMode, GoodStep, ModeIs, FoundIs}
 use Rattle.eon_strings.specs.declared.Found.{Found}
 use Rattle.eon_strings.specs.declared.Mode.{Mode}
 use Rattle.eon_strings.specs.declared.Mode.the-variants.{Literal, Plain, Backslash, Blanks, Unicode, Digits}
@@ -34,7 +34,7 @@ module _ (c : ℕ) where
   unfolding encodeChar
   encode-four h = rw (le-ltb c 0x80 (omega arith), encodeChar) (rw (le-ltb c 0x800 (omega arith)) (rw (le-ltb c 0x10000 h)))
 
-sets-append : (a b l : List ℕ) (i : ℕ) → sets (sets l i a) (i + length a) b ≡ sets l i (a ++ b)
+pub sets-append : (a b l : List ℕ) (i : ℕ) → sets (sets l i a) (i + length a) b ≡ sets l i (a ++ b)
 sets-append [] b l i = rw (add-zero i)
 sets-append (x ∷ a) b l i =
     let z : i + suc (length a) ≡ suc i + length a = omega arith in
@@ -60,12 +60,8 @@ pub same-as : {v : unquoting.Unescaped} (w : unquoting.Unescaped) (at : ℕ) (en
 same-as w at entry exit number len e h = rw e h
 
 -- one turn: the next character is read
-pub turn : (s : List ℕ) (i c e n k : ℕ) (m : Mode) (r t : Step) → NextIs s i c e → (e ≡ i → ⊥) → n ≡ suc k → ((u : List ℕ) → readsBy m (c ∷ u) ≡ onward r u) → r ≡ t → readsBy m (take n (kept s i)) ≡ onward t (take k (kept s e))
-turn s i c e n k m r t x h l f p =
-    ap (λ (u : List ℕ). readsBy m (take n u)) (x .one-more h)
-    ∙ ap (λ (j : ℕ). readsBy m (take j (c ∷ kept s e))) l
-    ∙ f (take k (kept s e))
-    ∙ ap (λ (q : Step). onward q (take k (kept s e))) p
+pub turn : (s : List ℕ) (i c e : ℕ) (m : Mode) (r t : Step) → NextIs s i c e → (e ≡ i → ⊥) → ((u : List ℕ) → readsBy m (c ∷ u) ≡ onward r u) → r ≡ t → readsBy m (kept s i) ≡ onward t (kept s e)
+turn s i c e m r t x h f p = ap (readsBy m) (x .one-more h) ∙ f (kept s e) ∙ ap (λ (q : Step). onward q (kept s e)) p
 
 -- what is stored, byte by byte
 abbrev Wrote : List ℕ → List ℕ → ℕ → ℕ → ℕ → Type 0
@@ -101,13 +97,14 @@ good-step r t e h = subst GoodStep e h
 pub found-below : (b : ℕ) (f g : Found) → f ≡ g → FoundIs b f → FoundIs b g
 found-below b f g e h = subst (λ (x : Found). FoundIs b x) e h
 
--- the text ends, or the characters that were asked for
-module _ (s : List ℕ) (i n : ℕ) (m : Mode) (len : ℕ) (out : List ℕ) (r l : ℕ) (e : (r ≡ endOf m) × (l ≡ len)) where
-  over : (u : List ℕ) → u ≡ [] → Reads len out (readsBy m u) out r l
-  over u z = rw (z, e .0, e .1) (reads-end m len out)
+-- the text ends
+pub no-more : (s : List ℕ) (i : ℕ) (m : Mode) (len : ℕ) (out : List ℕ) (r l : ℕ) → (r ≡ endOf m) × (l ≡ len) → kept s i ≡ [] → Reads len out (readsBy m (kept s i)) out r l
+no-more s i m len out r l e z = rw (z, e .0, e .1) (reads-end m len out)
 
-  pub no-more : kept s i ≡ [] → Reads len out (readsBy m (take n (kept s i))) out r l
-  no-more z = over (take n (kept s i)) (ap (λ (u : List ℕ). take n u) z ∙ take-nil n)
-
-  pub all-read : n ≡ 0 → Reads len out (readsBy m (take n (kept s i))) out r l
-  all-read z = over (take n (kept s i)) (ap (λ (k : ℕ). take k (kept s i)) z)
+pub mode-good : (s : List ℕ) (m : Mode) → ModeIs s m → GoodMode m
+mode-good s Literal h = tt
+mode-good s Plain h = tt
+mode-good s Backslash h = absurd h
+mode-good s Blanks h = absurd h
+mode-good s Unicode h = absurd h
+mode-good s (Digits k n) h = absurd h

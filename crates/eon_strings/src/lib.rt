@@ -4,15 +4,15 @@ use eon_spec::Unquoted;
 use eon_spec::Which;
 ghost use mathlib.Core.Path.{_≡_};
 ghost use mathlib.Core.List.{List, _∷_};
-ghost use lib.ListN.{length, drop, take, set, replicate};
+ghost use lib.ListN.{length, drop, set};
 ghost use lib.Seq.{sets};
 ghost use lib.Dec.{leb};
 ghost use Prim.Native.Nat.{ℕ, _+_, _-_, _/_, _%_, _≤_, _<_};
-ghost use Rattle.eon_spec.specs.Base.{elem, eqList};
+ghost use Rattle.eon_spec.specs.Base.{elem};
 ghost use Rattle.eon_spec.specs.Utf8.{encodeChar};
-ghost use Rattle.eon_spec.specs.Unquote.{isLetter, isLetterOrDigit, allLettersOrDigits, isValidIdentifier, startsWith, endsWith, lookup, escapes, hexDigit, whiteSpace, value, oneLineOnly, dropLineFeed, unquoteChars};
+ghost use Rattle.eon_spec.specs.Unquote.{isLetter, isLetterOrDigit, allLettersOrDigits, isValidIdentifier, startsWith, lookup, escapes, hexDigit, whiteSpace, value, oneLineOnly, dropLineFeed, unquoteChars};
 ghost use Rattle.eon_spec.specs.Calls.{after, isPart, opening, partOf, unquotedOutcome, unquoteCall, showCall};
-ghost use Rattle.eon_strings.specs.Views.{kept, NextIs, StartIs, BetweenIs, asOption, FoundIs, readsBy, marked, onward, GoodMode, GoodStep, endOf, Reads, ContentsIs, placedCall};
+ghost use Rattle.eon_strings.specs.Views.{kept, between, Formed, Inside, NextIs, StartIs, ClosingIs, asOption, FoundIs, readsBy, marked, onward, GoodMode, GoodStep, endOf, Reads, RunIs, CopiedIs, ModeIs, ContentsIs, placedCall, scratchCall};
 
 // One-character escapes: the characters behind the backslash, and what they give.
 const ESCAPES: [u32; 16] = [
@@ -249,37 +249,24 @@ fn next_kept(text: &[u8], from: usize) -> Next
     Next { code: 0, end: from }
 }
 
-// The number of characters from a place on.
-fn count(text: &[u8], from: usize) -> usize
+// The same, for a walk over a text: ASCII needs no decoding.
+fn quick_next(text: &[u8], from: usize) -> Next
     requires { ⌜ from ≤ length (now text) ⌝ }
-    ensures { λ r. ⌜ r ≡ length (kept (now (text .entry)) from) ⌝ }
+    ensures { λ r. ⌜ NextIs (now (text .entry)) from (r .code) (r .end) ⌝ }
 {
-    let mut at = from;
-    let mut n = 0;
-    loop {
-        let c = next_kept(text, at);
-        let end = c.end;
-        if end == at {
-            return n;
+    if text.len() <= from {
+        return Next { code: 0, end: from };
+    }
+    let b = text[from];
+    if b < 0x80 {
+        if b != 13 {
+            return Next {
+                code: b as u32,
+                end: from + 1,
+            };
         }
-        at = end;
-        n += 1;
     }
-}
-
-// The place behind the next n characters.
-fn skip(text: &[u8], from: usize, n: usize) -> usize
-    requires { ⌜ from ≤ length (now text) ⌝ }
-    ensures { λ r. ⌜ (r ≤ length (now (text .entry))) × (kept (now (text .entry)) r ≡ drop n (kept (now (text .entry)) from)) ⌝ }
-{
-    let mut at = from;
-    let mut left = n;
-    while 0 < left {
-        let c = next_kept(text, at);
-        at = c.end;
-        left -= 1;
-    }
-    at
+    next_kept(text, from)
 }
 
 // A mark stands at a place, and where it ends.
@@ -316,53 +303,40 @@ fn starts(text: &[u8], from: usize, quote: u32, n: usize) -> Start
     Start { yes: true, end: at }
 }
 
-// The closing mark is there, and the number of characters before it.
-struct Between {
-    closed: bool,
-    count: usize,
+// The closing mark is there, and where it begins.
+struct Closed {
+    yes: bool,
+    at: usize,
 }
 
-// What stands behind an opening mark.
-fn before_closing(text: &[u8], from: usize, quote: u32, n: usize) -> Between
-    requires { ⌜ from ≤ length (now text) ⌝ }
-    ensures { λ r. ⌜ BetweenIs (kept (now (text .entry)) from) quote n (r .closed) (r .count) ⌝ }
+// n quotes at the end, looked for backwards down to a place: a quote is ASCII, so that each is one byte.
+fn closing(text: &[u8], from: usize, quote: u8, n: usize) -> Closed
+    requires { ⌜ (from ≤ length (now text)) × Formed (drop from (now text)) × (quote < 128) × (13 < quote) ⌝ }
+    ensures { λ r. ⌜ ClosingIs (now (text .entry)) from quote n (r .yes) (r .at) ⌝ }
 {
-    let total = count(text, from);
-    if total < n {
-        return Between {
-            closed: false,
-            count: 0,
-        };
-    }
-    let inner = total - n;
-    let close = skip(text, from, inner);
-    let c = starts(text, close, quote, n);
-    Between {
-        closed: c.yes,
-        count: inner,
-    }
-}
-
-// A line feed is among the next n characters.
-fn has_line_feed(text: &[u8], from: usize, n: usize) -> bool
-    requires { ⌜ from ≤ length (now text) ⌝ }
-    ensures { λ r. ⌜ r ≡ elem 10 (take n (kept (now (text .entry)) from)) ⌝ }
-{
-    let mut at = from;
+    let mut at = text.len();
     let mut left = n;
     while 0 < left {
-        let c = next_kept(text, at);
-        let end = c.end;
-        if end == at {
-            return false;
+        if at <= from {
+            return Closed {
+                yes: false,
+                at: from,
+            };
         }
-        if c.code == 10 {
-            return true;
+        at -= 1;
+        let b = text[at];
+        if b == 13 {
+            continue;
         }
-        at = end;
+        if b != quote {
+            return Closed {
+                yes: false,
+                at: from,
+            };
+        }
         left -= 1;
     }
-    false
+    Closed { yes: true, at: at }
 }
 
 // A number that a table may give.
@@ -613,23 +587,58 @@ fn finished(mode: Mode, len: usize) -> Read
     }
 }
 
-// The next n characters are unescaped into the beginning of out, as far as it reaches.
-fn unescape(text: &[u8], from: usize, n: usize, mode: Mode, out: &mut [u8]) -> Read
-    requires { ⌜ (from ≤ length (now text)) × (length (now text) ≤ 65535) × GoodMode mode ⌝ }
-    ensures { λ r. ⌜ Reads 0 (now (out .entry)) (readsBy mode (take n (kept (now (text .entry)) from))) (now (out .exit)) (r .fault) (r .len) ⌝ }
+// The bytes from a place on, up to a backslash or a carriage return, are copied as far as out reaches.
+fn copy_run(text: &[u8], from: usize, out: &mut [u8], to: usize) -> usize
+    requires { ⌜ (from ≤ length (now text)) × (length (now text) ≤ 65535) × (to < 0x1000000) ⌝ }
+    ensures { λ r. ⌜ RunIs (now (text .entry)) from r × (now (out .exit) ≡ sets (now (out .entry)) to (between (now (text .entry)) from r)) ⌝ }
 {
     let mut at = from;
-    let mut left = n;
+    while at < text.len() {
+        let b = text[at];
+        if b == 92 {
+            return at;
+        }
+        if b == 13 {
+            return at;
+        }
+        put(out, to + (at - from), b);
+        at += 1;
+    }
+    at
+}
+
+// Outside an escape most bytes stand for themselves. The place behind those copied is handed back.
+fn copied(text: &[u8], from: usize, mode: Mode, out: &mut [u8], to: usize) -> usize
+    requires { ⌜ (from ≤ length (now text)) × (length (now text) ≤ 65535) × (to < 0x1000000) × Formed (drop from (now text)) ⌝ }
+    ensures { λ r. ⌜ CopiedIs (now (text .entry)) from mode (now (out .entry)) to (now (out .exit)) r ⌝ }
+{
+    match mode {
+        Mode::Literal => copy_run(text, from, out, to),
+        Mode::Plain => copy_run(text, from, out, to),
+        Mode::Backslash => from,
+        Mode::Blanks => from,
+        Mode::Unicode => from,
+        Mode::Digits(_, _) => from,
+    }
+}
+
+// The text is unescaped into the beginning of out, as far as it reaches.
+fn unescape(text: &[u8], mode: Mode, out: &mut [u8]) -> Read
+    requires { ⌜ (length (now text) ≤ 65535) × Formed (now text) × GoodMode mode ⌝ }
+    ensures { λ r. ⌜ Reads 0 (now (out .entry)) (readsBy mode (kept (now (text .entry)) 0)) (now (out .exit)) (r .fault) (r .len) ⌝ }
+{
+    let mut at = 0;
     let mut m = mode;
     let mut len = 0;
-    while 0 < left {
-        let c = next_kept(text, at);
+    while at < text.len() {
+        let run = copied(text, at, m, out, len);
+        len += run - at;
+        let c = quick_next(text, run);
         let end = c.end;
-        if end == at {
+        if end == run {
             return finished(m, len);
         }
         at = end;
-        left -= 1;
         let step = read_char(m, c.code);
         match step {
             Step::Go(next) => {
@@ -652,66 +661,64 @@ fn unescape(text: &[u8], from: usize, n: usize, mode: Mode, out: &mut [u8]) -> R
     finished(m, len)
 }
 
-// What stands between the quotes: its place, the number of its characters, and how they are read; or a refusal.
+// What stands between the quotes: where it begins and ends, and how it is read; or a refusal.
 pub enum Contents {
     Text(usize, usize, Mode),
     Fault(u32),
 }
 
 // A string that must stand on one line.
-fn one_line(text: &[u8], from: usize, n: usize, mode: Mode) -> Contents
-    requires { ⌜ (from ≤ length (now text)) × GoodMode mode ⌝ }
-    ensures { λ r. ⌜ ContentsIs (now (text .entry)) (oneLineOnly (readsBy mode) (take n (kept (now (text .entry)) from))) r ⌝ }
+fn one_line(text: &[u8], from: usize, to: usize, mode: Mode) -> Contents
+    requires { ⌜ Inside (now text) from to × ModeIs (now text) mode ⌝ }
+    ensures { λ r. ⌜ ContentsIs (now (text .entry)) (oneLineOnly (readsBy mode) (kept (between (now (text .entry)) from to) 0)) r ⌝ }
 {
-    if has_line_feed(text, from, n) {
+    if contains(&text[from..to], 10) {
         return Contents::Fault(19);
     }
-    Contents::Text(from, n, mode)
+    Contents::Text(from, to, mode)
 }
 
 // Literal text without a leading line feed.
-fn without_line_feed(text: &[u8], from: usize, n: usize) -> Contents
-    requires { ⌜ from ≤ length (now text) ⌝ }
-    ensures { λ r. ⌜ ContentsIs (now (text .entry)) (value (dropLineFeed (take n (kept (now (text .entry)) from)))) r ⌝ }
+fn without_line_feed(text: &[u8], from: usize, to: usize) -> Contents
+    requires { ⌜ Inside (now text) from to ⌝ }
+    ensures { λ r. ⌜ ContentsIs (now (text .entry)) (value (dropLineFeed (kept (between (now (text .entry)) from to) 0))) r ⌝ }
 {
-    if n == 0 {
-        return Contents::Text(from, 0, Mode::Literal);
-    }
-    let c = next_kept(text, from);
+    let c = next_kept(&text[from..to], 0);
     let end = c.end;
-    if end == from {
-        return Contents::Text(from, n, Mode::Literal);
+    if end == 0 {
+        return Contents::Text(from, to, Mode::Literal);
     }
     if c.code == 10 {
-        return Contents::Text(end, n - 1, Mode::Literal);
+        return Contents::Text(from + end, to, Mode::Literal);
     }
-    Contents::Text(from, n, Mode::Literal)
+    Contents::Text(from, to, Mode::Literal)
 }
 
 // What stands between two marks of n quotes.
-fn in_marks(text: &[u8], from: usize, quote: u32, n: usize) -> Contents
-    requires { ⌜ from ≤ length (now text) ⌝ }
+fn in_marks(text: &[u8], from: usize, quote: u8, n: usize) -> Contents
+    requires { ⌜ (from ≤ length (now text)) × Formed (drop from (now text)) × (quote < 128) × (13 < quote) × ((quote ≡ 39 → ⊥) → ModeIs (now text) Mode.Plain) ⌝ }
     ensures { λ r. ⌜ ContentsIs (now (text .entry)) (marked quote n (kept (now (text .entry)) from)) r ⌝ }
 {
-    let b = before_closing(text, from, quote, n);
-    let inner = b.count;
-    if !b.closed {
+    let b = closing(text, from, quote, n);
+    let to = b.at;
+    if !b.yes {
         return Contents::Fault(18);
     }
     if n == 1 {
         if quote == 39 {
-            return one_line(text, from, inner, Mode::Literal);
+            return one_line(text, from, to, Mode::Literal);
         }
-        return one_line(text, from, inner, Mode::Plain);
+        return one_line(text, from, to, Mode::Plain);
     }
     if quote != 39 {
-        return Contents::Text(from, inner, Mode::Plain);
+        return Contents::Text(from, to, Mode::Plain);
     }
-    without_line_feed(text, from, inner)
+    without_line_feed(text, from, to)
 }
 
 // Openings are tried in the order `'''`, `'`, `"""`, `"`.
 fn in_quotes(text: &[u8]) -> Contents
+    requires { ⌜ Formed (now text) ⌝ }
     ensures { λ r. ⌜ ContentsIs (now (text .entry)) (unquoteChars (kept (now (text .entry)) 0)) r ⌝ }
 {
     let a = starts(text, 0, 39, 3);
@@ -733,24 +740,32 @@ fn in_quotes(text: &[u8]) -> Contents
     Contents::Fault(17)
 }
 
-// The value is measured, and then written where it is no part of the quoted slice.
-fn placed(quoted: &[u8], from: usize, n: usize, mode: Mode, scratch: &mut [u8]) -> Unquoted
-    requires { ⌜ (from ≤ length (now quoted)) × (length (now quoted) ≤ 65535) × GoodMode mode ⌝ }
-    ensures { λ r. ⌜ after (unquotedOutcome r) (now (scratch .exit)) ≡ placedCall (now (quoted .entry)) (now (scratch .entry)) (readsBy mode (take n (kept (now (quoted .entry)) from))) ⌝ }
+// A value that is no part of the quoted slice is measured, and then written.
+fn unescaped(text: &[u8], mode: Mode, scratch: &mut [u8]) -> Unquoted
+    requires { ⌜ (length (now text) ≤ 65535) × Formed (now text) × GoodMode mode ⌝ }
+    ensures { λ r. ⌜ after (unquotedOutcome r) (now (scratch .exit)) ≡ scratchCall (now (scratch .entry)) (readsBy mode (kept (now (text .entry)) 0)) ⌝ }
 {
     let mut none = [0u8; 1];
-    let measured = unescape(quoted, from, n, mode, &mut none);
+    let measured = unescape(text, mode, &mut none);
     if measured.fault != 0 {
         return Unquoted::Refused(Refusal::new(measured.fault, 0));
-    }
-    if is_part(quoted) {
-        return Unquoted::Part(Which::Quoted, opening_len(quoted), measured.len);
     }
     if scratch.len() < measured.len {
         return Unquoted::Refused(Refusal::new(14, 0));
     }
-    let written = unescape(quoted, from, n, mode, scratch);
+    let written = unescape(text, mode, scratch);
     Unquoted::Part(Which::Scratch, 0, written.len)
+}
+
+// A part of the quoted slice is as long as what stands between the quotes: it holds nothing to unescape.
+fn placed(quoted: &[u8], from: usize, to: usize, mode: Mode, scratch: &mut [u8]) -> Unquoted
+    requires { ⌜ Inside (now quoted) from to × ModeIs (now quoted) mode × (length (now quoted) ≤ 65535) ⌝ }
+    ensures { λ r. ⌜ after (unquotedOutcome r) (now (scratch .exit)) ≡ placedCall (now (quoted .entry)) (now (scratch .entry)) (readsBy mode (kept (between (now (quoted .entry)) from to) 0)) ⌝ }
+{
+    if is_part(quoted) {
+        return Unquoted::Part(Which::Quoted, opening_len(quoted), to - from);
+    }
+    unescaped(&quoted[from..to], mode, scratch)
 }
 
 // The value of a quoted text, without its quotes and escapes.
@@ -766,8 +781,8 @@ pub fn unescape_and_unquote(quoted: &[u8], scratch: &mut [u8]) -> Unquoted
     }
     let c = in_quotes(quoted);
     match c {
-        Contents::Text(from, n, mode) => {
-            return placed(quoted, from, n, mode, scratch);
+        Contents::Text(from, to, mode) => {
+            return placed(quoted, from, to, mode, scratch);
         }
         Contents::Fault(number) => {
             return Unquoted::Refused(Refusal::new(number, 0));

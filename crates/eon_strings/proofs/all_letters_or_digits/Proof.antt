@@ -27,7 +27,10 @@ is-letter-or-digit-requires : tie.Need-is-letter-or-digit-requires Inv-loop μ-l
 is-letter-or-digit-requires c κs = search needs
 
 returns : tie.Need-returns Inv-loop μ-loop
-returns c = sym (c .before .before .before .before .loop .inv .1 ∙ all-stop (c .before .before .before .before .before .before .args .text .now) (c .before .before .before .before .loop .i) (omega arith) (sym (c .before .is-letter-or-digit .ensures) ∙ not-true (c .before .is-letter-or-digit .result) (c .if1 .taken)))
+returns c =
+    let args = c .before .before .before .before .before .before .args in
+    let loop = c .before .before .before .before .loop in
+    sym (loop .inv .1 ∙ all-stop (args .text .now) (loop .i) (omega arith) (sym (c .before .is-letter-or-digit .ensures) ∙ not-true (c .before .is-letter-or-digit .result) (c .if1 .taken)))
 
 add-i : tie.Need-add-i Inv-loop μ-loop
 add-i c = search needs
@@ -36,7 +39,10 @@ loop-less : tie.Need-loop-less Inv-loop μ-loop
 loop-less c = search needs
 
 loop-again : tie.Need-loop-again Inv-loop μ-loop
-loop-again c = (omega arith, c .before .before .before .before .loop .inv .1 ∙ all-step (c .before .before .before .before .before .before .args .text .now) (c .before .before .before .before .loop .i) (omega arith) (sym (c .before .is-letter-or-digit .ensures) ∙ not-false (c .before .is-letter-or-digit .result) (c .if1 .left)))
+loop-again c =
+    let args = c .before .before .before .before .before .before .args in
+    let loop = c .before .before .before .before .loop in
+    (omega arith, loop .inv .1 ∙ all-step (args .text .now) (loop .i) (omega arith) (sym (c .before .is-letter-or-digit .ensures) ∙ not-false (c .before .is-letter-or-digit .result) (c .if1 .left)))
 
 returns-2 : tie.Need-returns-2 Inv-loop μ-loop
 returns-2 c = sym (c .before .loop .inv .1 ∙ all-end (c .before .before .before .args .text .now) (c .before .loop .i) (omega arith))

@@ -20,7 +20,10 @@ loop-holds : tie.Need-loop-holds Inv-loop μ-loop
 loop-holds c = (search needs, sym (left-start (c .args .text .now) (c .args .mark .now)))
 
 returns : tie.Need-returns Inv-loop μ-loop
-returns c = sym (c .before .before .loop .inv .1 ∙ left-short (c .before .before .before .args .text .now) (c .before .before .before .args .mark .now) (c .before .before .loop .i) (c .if1 .taken) (omega arith))
+returns c =
+    let args = c .before .before .before .args in
+    let loop = c .before .before .loop in
+    sym (loop .inv .1 ∙ left-short (args .text .now) (args .mark .now) (loop .i) (c .if1 .taken) (omega arith))
 
 shared-slice-read-if2 : tie.Need-shared-slice-read-if2 Inv-loop μ-loop
 shared-slice-read-if2 c = search needs
@@ -29,7 +32,10 @@ shared-slice-read-if2-2 : tie.Need-shared-slice-read-if2-2 Inv-loop μ-loop
 shared-slice-read-if2-2 c = search needs
 
 returns-2 : tie.Need-returns-2 Inv-loop μ-loop
-returns-2 c = sym (c .before .before .before .before .before .loop .inv .1 ∙ left-stop (c .before .before .before .before .before .before .args .text .now) (c .before .before .before .before .before .before .args .mark .now) (c .before .before .before .before .before .loop .i) (omega arith) (omega arith) (c .if2 .taken))
+returns-2 c =
+    let args = c .before .before .before .before .before .before .args in
+    let loop = c .before .before .before .before .before .loop in
+    sym (loop .inv .1 ∙ left-stop (args .text .now) (args .mark .now) (loop .i) (omega arith) (omega arith) (c .if2 .taken))
 
 add-i : tie.Need-add-i Inv-loop μ-loop
 add-i c = search needs
@@ -38,10 +44,15 @@ loop-less : tie.Need-loop-less Inv-loop μ-loop
 loop-less c = search needs
 
 loop-again : tie.Need-loop-again Inv-loop μ-loop
-loop-again c = (omega arith, c .before .before .before .before .before .loop .inv .1 ∙ left-step (c .before .before .before .before .before .before .args .text .now) (c .before .before .before .before .before .before .args .mark .now) (c .before .before .before .before .before .loop .i) (omega arith) (omega arith) (omega arith))
+loop-again c =
+    let args = c .before .before .before .before .before .before .args in
+    let loop = c .before .before .before .before .before .loop in
+    (omega arith, loop .inv .1 ∙ left-step (args .text .now) (args .mark .now) (loop .i) (omega arith) (omega arith) (omega arith))
 
 returns-3 : tie.Need-returns-3 Inv-loop μ-loop
-returns-3 c = sym (c .before .loop .inv .1 ∙ left-end (c .before .before .args .text .now) (c .before .before .args .mark .now) (c .before .loop .i) (omega arith))
+returns-3 c =
+    let args = c .before .before .args in
+    sym (c .before .loop .inv .1 ∙ left-end (args .text .now) (args .mark .now) (c .before .loop .i) (omega arith))
 
 pub begins-spec : {M : Type 1} → statement M
 begins-spec =

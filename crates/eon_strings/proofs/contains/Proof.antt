@@ -23,7 +23,10 @@ shared-slice-read-if1 : tie.Need-shared-slice-read-if1 Inv-loop μ-loop
 shared-slice-read-if1 c = search needs
 
 returns : tie.Need-returns Inv-loop μ-loop
-returns c = sym (c .before .before .before .loop .inv .1 ∙ elem-stop (c .before .before .before .before .args .text .now) (c .before .before .before .loop .i) (c .before .before .before .before .args .b) (omega arith) (c .if1 .taken))
+returns c =
+    let args = c .before .before .before .before .args in
+    let loop = c .before .before .before .loop in
+    sym (loop .inv .1 ∙ elem-stop (args .text .now) (loop .i) (args .b) (omega arith) (c .if1 .taken))
 
 add-i : tie.Need-add-i Inv-loop μ-loop
 add-i c = search needs
@@ -32,10 +35,15 @@ loop-less : tie.Need-loop-less Inv-loop μ-loop
 loop-less c = search needs
 
 loop-again : tie.Need-loop-again Inv-loop μ-loop
-loop-again c = (omega arith, c .before .before .before .loop .inv .1 ∙ elem-step (c .before .before .before .before .args .text .now) (c .before .before .before .loop .i) (c .before .before .before .before .args .b) (omega arith) (c .if1 .left))
+loop-again c =
+    let args = c .before .before .before .before .args in
+    let loop = c .before .before .before .loop in
+    (omega arith, loop .inv .1 ∙ elem-step (args .text .now) (loop .i) (args .b) (omega arith) (c .if1 .left))
 
 returns-2 : tie.Need-returns-2 Inv-loop μ-loop
-returns-2 c = sym (c .before .loop .inv .1 ∙ elem-end (c .before .before .args .text .now) (c .before .loop .i) (c .before .before .args .b) (omega arith))
+returns-2 c =
+    let args = c .before .before .args in
+    sym (c .before .loop .inv .1 ∙ elem-end (args .text .now) (c .before .loop .i) (args .b) (omega arith))
 
 pub contains-spec : {M : Type 1} → statement M
 contains-spec =

@@ -32,7 +32,9 @@ array-read-t13 : tie.Need-array-read-t13 Inv-loop μ-loop
 array-read-t13 c = search needs
 
 returns : tie.Need-returns Inv-loop μ-loop
-returns c = (c .before .before .loop .inv .1 ∙ look-here escapes (c .before .before .before .args .c) (c .before .before .loop .i) (omega arith) (c .if1 .taken), escaped-small (c .before .before .loop .i) (omega arith))
+returns c =
+    let loop = c .before .before .loop in
+    (loop .inv .1 ∙ look-here escapes (c .before .before .before .args .c) (loop .i) (omega arith) (c .if1 .taken), escaped-small (loop .i) (omega arith))
 
 add-i : tie.Need-add-i Inv-loop μ-loop
 add-i c = search needs
@@ -41,7 +43,9 @@ loop-less : tie.Need-loop-less Inv-loop μ-loop
 loop-less c = search needs
 
 loop-again : tie.Need-loop-again Inv-loop μ-loop
-loop-again c = (omega arith, c .before .before .loop .inv .1 ∙ look-step escapes (c .before .before .before .args .c) (c .before .before .loop .i) (omega arith) (c .if1 .left))
+loop-again c =
+    let loop = c .before .before .loop in
+    (omega arith, loop .inv .1 ∙ look-step escapes (c .before .before .before .args .c) (loop .i) (omega arith) (c .if1 .left))
 
 returns-2 : tie.Need-returns-2 Inv-loop μ-loop
 returns-2 c = (c .before .loop .inv .1 ∙ look-end escapes (c .before .before .args .c) (c .before .loop .i) (omega arith), tt)

@@ -20,19 +20,27 @@ sub-t4 : tie.Need-sub-t4
 sub-t4 c = search needs
 
 returns-4 : tie.Need-returns-4
-returns-4 c = (hex-upper (c .before .before .before .before .args .c) (c .before .if3 .left) (c .if4 .taken), omega arith)
+returns-4 c =
+    let args = c .before .before .before .before .args in
+    (hex-upper (args .c) (c .before .if3 .left) (c .if4 .taken), omega arith)
 
 returns-5 : tie.Need-returns-5
-returns-5 c = (hex-gap (c .before .before .before .before .before .args .c) (c .before .if4 .left) (c .if5 .taken), tt)
+returns-5 c =
+    let args = c .before .before .before .before .before .args in
+    (hex-gap (args .c) (c .before .if4 .left) (c .if5 .taken), tt)
 
 sub-t5 : tie.Need-sub-t5
 sub-t5 c = search needs
 
 returns-6 : tie.Need-returns-6
-returns-6 c = (hex-lower (c .before .before .before .before .before .before .args .c) (c .before .if5 .left) (c .if6 .taken), omega arith)
+returns-6 c =
+    let args = c .before .before .before .before .before .before .args in
+    (hex-lower (args .c) (c .before .if5 .left) (c .if6 .taken), omega arith)
 
 returns-7 : tie.Need-returns-7
-returns-7 c = (hex-high (c .before .before .before .before .before .before .args .c) (c .if6 .left), tt)
+returns-7 c =
+    let args = c .before .before .before .before .before .before .args in
+    (hex-high (args .c) (c .if6 .left), tt)
 
 pub hex-digit-spec : {M : Type 1} → statement M
 hex-digit-spec =

@@ -17,19 +17,30 @@ enum-known-d : tie.Need-enum-known-d
 enum-known-d c = search needs
 
 returns : tie.Need-returns
-returns c = (λ s. back-escape (c .before .before .before .before .args .c) s (c .before .d .given .0 .0) (c .before .before .before .escape .ensures .0 ∙ ap asOption (c .before .d .given .1)), (let h = found-below 128 (c .before .before .before .escape .result) _ (c .before .d .given .1) (c .before .before .before .escape .ensures .1) in omega arith, tt))
+returns c =
+    let args = c .before .before .before .before .args in
+    let escape = c .before .before .before .escape in
+    (λ s. back-escape (args .c) s (c .before .d .given .0 .0) (escape .ensures .0 ∙ ap asOption (c .before .d .given .1)), (let h = found-below 128 (escape .result) _ (c .before .d .given .1) (escape .ensures .1) in omega arith, tt))
 
 enum-told : tie.Need-enum-told
 enum-told c = search needs
 
 returns-2 : tie.Need-returns-2
-returns-2 c = (λ s. back-feed (c .before .before .before .before .args .c) s (c .before .before .before .escape .ensures .0 ∙ ap asOption (c .before .enum-told .given .1)) (c .if1 .taken), tt)
+returns-2 c =
+    let args = c .before .before .before .before .args in
+    (λ s. back-feed (args .c) s (c .before .before .before .escape .ensures .0 ∙ ap asOption (c .before .enum-told .given .1)) (c .if1 .taken), tt)
 
 returns-3 : tie.Need-returns-3
-returns-3 c = (λ s. back-unicode (c .before .before .before .before .before .args .c) s (c .before .before .before .before .escape .ensures .0 ∙ ap asOption (c .before .before .enum-told .given .1)) (c .before .if1 .left) (c .if2 .taken), tt)
+returns-3 c =
+    let args = c .before .before .before .before .before .args in
+    let escape = c .before .before .before .before .escape in
+    (λ s. back-unicode (args .c) s (escape .ensures .0 ∙ ap asOption (c .before .before .enum-told .given .1)) (c .before .if1 .left) (c .if2 .taken), tt)
 
 returns-4 : tie.Need-returns-4
-returns-4 c = (λ s. back-other (c .before .before .before .before .before .args .c) s (c .before .before .before .before .escape .ensures .0 ∙ ap asOption (c .before .before .enum-told .given .1)) (c .before .if1 .left) (c .if2 .left), omega arith)
+returns-4 c =
+    let args = c .before .before .before .before .before .args in
+    let escape = c .before .before .before .before .escape in
+    (λ s. back-other (args .c) s (escape .ensures .0 ∙ ap asOption (c .before .before .enum-told .given .1)) (c .before .if1 .left) (c .if2 .left), omega arith)
 
 pub in-backslash-spec : {M : Type 1} → statement M
 in-backslash-spec =

@@ -27,7 +27,9 @@ array-read-if1 : tie.Need-array-read-if1 Inv-loop μ-loop
 array-read-if1 c = search needs
 
 returns : tie.Need-returns Inv-loop μ-loop
-returns c = sym (c .before .before .loop .inv .1 ∙ elem-stop whiteSpace (c .before .before .loop .i) (c .before .before .before .args .c) (omega arith) (c .if1 .taken))
+returns c =
+    let loop = c .before .before .loop in
+    sym (loop .inv .1 ∙ elem-stop whiteSpace (loop .i) (c .before .before .before .args .c) (omega arith) (c .if1 .taken))
 
 add-i : tie.Need-add-i Inv-loop μ-loop
 add-i c = search needs
@@ -36,7 +38,9 @@ loop-less : tie.Need-loop-less Inv-loop μ-loop
 loop-less c = search needs
 
 loop-again : tie.Need-loop-again Inv-loop μ-loop
-loop-again c = (omega arith, c .before .before .loop .inv .1 ∙ elem-step whiteSpace (c .before .before .loop .i) (c .before .before .before .args .c) (omega arith) (c .if1 .left))
+loop-again c =
+    let loop = c .before .before .loop in
+    (omega arith, loop .inv .1 ∙ elem-step whiteSpace (loop .i) (c .before .before .before .args .c) (omega arith) (c .if1 .left))
 
 returns-2 : tie.Need-returns-2 Inv-loop μ-loop
 returns-2 c = sym (c .before .loop .inv .1 ∙ elem-end whiteSpace (c .before .loop .i) (c .before .before .args .c) (omega arith))

@@ -1,23 +1,47 @@
--- `eon_strings::one_line` meets its contract.
+-- `eon_strings::one_line` meets its contract. A line feed among the bytes is one among the characters.
 -- Assumes nothing.
 use borrow.Author.Needs.{needs}
 use native.Mathlib.Omega.{arith}
 use mathlib.Core.Path.{sym, _∙_}
-use Prim.Native.Nat.{_-_}
-use lib.ListN.{take}
-use Rattle.eon_strings.specs.Views.{kept, readsBy}
+use Rattle.eon_strings.specs.Views.{kept, between, readsBy}
 use Rattle.eon_strings.proofs.Marks.{feed, no-feed}
+use Rattle.eon_strings.proofs.Runs.{feed-byte}
 use Rattle.eon_strings.proofs.one_line.Statement.{statement}
 use Rattle.eon_strings.proofs.one_line.Tie as tie
 
-has-line-feed-requires : tie.Need-has-line-feed-requires
-has-line-feed-requires c κs = search needs
+sub-contains : tie.Need-sub-contains
+sub-contains c = search needs
+
+part-contains-start : tie.Need-part-contains-start
+part-contains-start c = search needs
+
+part-contains-end : tie.Need-part-contains-end
+part-contains-end c = search needs
+
+contains-requires : tie.Need-contains-requires
+contains-requires c κs = search needs
 
 returns : tie.Need-returns
-returns c = (feed (readsBy (c .before .before .before .args .mode)) (take (c .before .before .before .args .n) (kept (c .before .before .before .args .text .now) (c .before .before .before .args .from))) (sym (c .before .has-line-feed .ensures) ∙ c .if1 .taken), omega arith)
+returns c =
+    let pre = c .before .before .before .before .pre in
+    let a = c .before .before .before .before .args in
+    let t = between (a .text .now) (a .from) (a .to) in
+    (feed (readsBy (a .mode)) (kept t 0) (sym (feed-byte t (pre .0 .formed)) ∙ sym (c .before .contains .ensures) ∙ c .if1 .taken), omega arith)
 
 returns-2 : tie.Need-returns-2
-returns-2 c = (no-feed (readsBy (c .before .before .before .args .mode)) (take (c .before .before .before .args .n) (kept (c .before .before .before .args .text .now) (c .before .before .before .args .from))) (sym (c .before .has-line-feed .ensures) ∙ c .if1 .left), c .before .before .before .pre .0, c .before .before .before .pre .1)
+returns-2 c =
+    let pre = c .before .before .before .before .pre in
+    let a = c .before .before .before .before .args in
+    let t = between (a .text .now) (a .from) (a .to) in
+    (no-feed (readsBy (a .mode)) (kept t 0) (sym (feed-byte t (pre .0 .formed)) ∙ sym (c .before .contains .ensures) ∙ c .if1 .left), pre .0, pre .1)
 
 pub one-line-spec : {M : Type 1} → statement M
-one-line-spec = tie.close (tie.spec has-line-feed-requires returns returns-2)
+one-line-spec =
+    tie.close
+    (tie.spec
+    sub-contains
+    part-contains-start
+    part-contains-end
+    contains-requires
+    returns
+    returns-2)

@@ -1,27 +1,16 @@
--- The value is measured first; what is written is known to fit.
+-- A part of the quoted slice has nothing to unescape; else the value is written.
 use borrow.Author.Needs.{needs}
 use native.Mathlib.Omega.{arith}
-use mathlib.Core.Path.{sym, _∙_}
-use lib.ListN.{take}
-use Rattle.eon_strings.specs.Views.{kept, readsBy}
-use Rattle.eon_strings.proofs.Whole.{measured-fault, measured-part, measured-room, is-written}
+use mathlib.Core.Path.{sym, ap, _∙_}
+use Rattle.eon_spec.specs.Utf8.{decode}
+use Rattle.eon_spec.specs.Unquote as unquoting
+use Rattle.eon_strings.specs.Views.{kept, between, readsBy, placedCall}
+use Rattle.eon_strings.proofs.Places.{length-between}
+use Rattle.eon_strings.proofs.Runs.{part-length, part-value}
+use Rattle.eon_strings.proofs.Writes.{mode-good}
+use Rattle.eon_strings.proofs.Whole.{part-is, scratch-is}
 use Rattle.eon_strings.proofs.placed.Statement.{statement}
 use Rattle.eon_strings.proofs.placed.Tie as tie
-
-slice-aggregate-unescape : tie.Need-slice-aggregate-unescape
-slice-aggregate-unescape c = search needs
-
-unescape-requires : tie.Need-unescape-requires
-unescape-requires c κs = search needs
-
-new-requires : tie.Need-new-requires
-new-requires c κs = search needs
-
-returns : tie.Need-returns
-returns c =
-    let a = c .before .before .before .before .before .before .before .before .args in
-    let m = c .before .before .before .before .unescape in
-    measured-fault (a .quoted .now) (a .scratch .now) (readsBy (a .mode) (take (a .n) (kept (a .quoted .now) (a .from)))) (c .new .result) _ _ (m .result .fault) (m .result .len) (c .new .ensures) (m .ensures) (c .before .if1 .taken)
 
 is-part-requires : tie.Need-is-part-requires
 is-part-requires c κs = search needs
@@ -29,51 +18,56 @@ is-part-requires c κs = search needs
 opening-len-requires : tie.Need-opening-len-requires
 opening-len-requires c κs = search needs
 
-returns-2 : tie.Need-returns-2
-returns-2 c =
-    let a = c .before .before .before .before .before .before .before .before .before .before .args in
-    let m = c .before .before .before .before .before .before .unescape in
-    measured-part (a .quoted .now) (a .scratch .now) (readsBy (a .mode) (take (a .n) (kept (a .quoted .now) (a .from)))) _ _ (m .result .fault) (m .result .len) (c .opening-len .result) (c .opening-len .ensures) (m .ensures) (omega arith)
-    (sym (c .before .before .is-part .ensures) ∙ c .before .if2 .taken)
+sub-t9 : tie.Need-sub-t9
+sub-t9 c = search needs
 
-new-requires-2 : tie.Need-new-requires-2
-new-requires-2 c κs = search needs
+returns : tie.Need-returns
+returns c =
+    let pre = c .before .before .before .before .before .pre in
+    let a = c .before .before .before .before .before .args in
+    let q = a .quoted .now in
+    let old = a .scratch .now in
+    let p = sym (c .before .before .is-part .ensures) ∙ c .before .if1 .taken in
+    part-is q old (decode (between q (a .from) (a .to))) (c .opening-len .result) _ p (c .opening-len .ensures) (part-length q (a .from) (a .to) (pre .0))
+    ∙ ap (λ (w : unquoting.Unescaped). placedCall q old w) (sym (part-value q (a .from) (a .to) (pre .0) (a .mode) (pre .1) p))
 
-returns-3 : tie.Need-returns-3
-returns-3 c =
-    let a = c .before .before .before .before .before .before .before .before .before .before .before .before .args in
-    let m = c .before .before .before .before .before .before .before .before .unescape in
-    measured-room (a .quoted .now) (a .scratch .now) (readsBy (a .mode) (take (a .n) (kept (a .quoted .now) (a .from)))) (c .new2 .result) _ _ (m .result .fault) (m .result .len) (c .new2 .ensures) (m .ensures) (omega arith)
-    (sym (c .before .before .before .before .is-part .ensures) ∙ c .before .before .before .if2 .left) (c .before .if3 .taken)
+sub-unescaped : tie.Need-sub-unescaped
+sub-unescaped c = search needs
 
-unescape-requires-2 : tie.Need-unescape-requires-2
-unescape-requires-2 c κs = search needs
+part-unescaped-start : tie.Need-part-unescaped-start
+part-unescaped-start c = search needs
+
+part-unescaped-end : tie.Need-part-unescaped-end
+part-unescaped-end c = search needs
+
+unescaped-requires : tie.Need-unescaped-requires
+unescaped-requires c κs =
+    let pre = c .before .before .before .before .before .before .pre in
+    let a = c .before .before .before .before .before .before .args in
+    (omega (arith, length-between (a .quoted .now) (a .from) (a .to) (pre .0 .within)), pre .0 .formed, mode-good (a .quoted .now) (a .mode) (pre .1))
 
 same-length : tie.Need-same-length
 same-length c = search needs
 
-returns-4 : tie.Need-returns-4
-returns-4 c =
-    let a = c .before .before .before .before .before .before .before .before .before .before .before .before .before .before .before .args in
-    let m = c .before .before .before .before .before .before .before .before .before .before .before .unescape in
-    let n = c .before .before .unescape2 in
-    sym
-    (is-written (a .quoted .now) (a .scratch .now) (readsBy (a .mode) (take (a .n) (kept (a .quoted .now) (a .from)))) _ _ (m .result .fault) (m .result .len) (n .last .1 .1 .1 .1 .0) (n .result .fault) (n .result .len) (m .ensures) (n .ensures)
-    (omega arith) (sym (c .before .before .before .before .before .before .before .is-part .ensures) ∙ c .before .before .before .before .before .before .if2 .left) (c .before .before .before .before .if3 .left))
+returns-2 : tie.Need-returns-2
+returns-2 c =
+    let is-part = c .before .before .before .before .before .before .is-part in
+    let if1 = c .before .before .before .before .before .if1 in
+    let a = c .before .before .before .before .before .before .before .before .before .args in
+    let q = a .quoted .now in
+    c .before .before .unescaped .ensures ∙ sym (scratch-is q (a .scratch .now) (readsBy (a .mode) (kept (between q (a .from) (a .to)) 0)) (sym (is-part .ensures) ∙ if1 .left))
 
 pub placed-spec : {M : Type 1} → statement M
 placed-spec =
     tie.close
     (tie.spec
-    slice-aggregate-unescape
-    unescape-requires
-    new-requires
-    returns
     is-part-requires
     opening-len-requires
-    returns-2
-    new-requires-2
-    returns-3
-    unescape-requires-2
+    sub-t9
+    returns
+    sub-unescaped
+    part-unescaped-start
+    part-unescaped-end
+    unescaped-requires
     same-length
-    returns-4)
+    returns-2)

@@ -20,7 +20,11 @@ same-length : tie.Need-same-length
 same-length c = search needs
 
 returns : tie.Need-returns
-returns c = wrote-one (c .before .before .before .before .before .before .args .out .now) (c .before .before .before .before .before .before .args .c) (c .before .before .before .before .before .before .args .at) (c .before .before .put .last .0) (c .before .before .before .before .if1 .taken) (c .before .before .put .ensures)
+returns c =
+    let args = c .before .before .before .before .before .before .args in
+    let if1 = c .before .before .before .before .if1 in
+    let put = c .before .before .put in
+    wrote-one (args .out .now) (args .c) (args .at) (put .last .0) (if1 .taken) (put .ensures)
 
 add-put : tie.Need-add-put
 add-put c = search needs
@@ -44,7 +48,13 @@ same-length-2 : tie.Need-same-length-2
 same-length-2 c = search needs
 
 returns-2 : tie.Need-returns-2
-returns-2 c = wrote-two (c .before .before .before .before .before .before .before .before .before .before .before .args .out .now) (c .before .before .before .before .before .before .before .before .before .before .before .args .c) (c .before .before .before .before .before .before .before .before .before .before .before .args .at) (c .before .before .before .before .before .before .put2 .last .0) (c .before .before .put-tail .last .0) (c .before .before .before .before .before .before .before .before .before .if1 .left) (c .before .before .before .before .before .before .before .before .if2 .taken) (c .before .before .before .before .before .before .put2 .ensures) (c .before .before .put-tail .ensures)
+returns-2 c =
+    let args = c .before .before .before .before .before .before .before .before .before .before .before .args in
+    let if1 = c .before .before .before .before .before .before .before .before .before .if1 in
+    let if2 = c .before .before .before .before .before .before .before .before .if2 in
+    let put2 = c .before .before .before .before .before .before .put2 in
+    let put-tail = c .before .before .put-tail in
+    wrote-two (args .out .now) (args .c) (args .at) (put2 .last .0) (put-tail .last .0) (if1 .left) (if2 .taken) (put2 .ensures) (put-tail .ensures)
 
 add-put-2 : tie.Need-add-put-2
 add-put-2 c = search needs
@@ -68,7 +78,13 @@ same-length-3 : tie.Need-same-length-3
 same-length-3 c = search needs
 
 returns-3 : tie.Need-returns-3
-returns-3 c = wrote-three (c .before .before .before .before .before .before .before .before .before .before .before .before .args .out .now) (c .before .before .before .before .before .before .before .before .before .before .before .before .args .c) (c .before .before .before .before .before .before .before .before .before .before .before .before .args .at) (c .before .before .before .before .before .before .put3 .last .0) (c .before .before .put-tails .last .0) (c .before .before .before .before .before .before .before .before .before .if2 .left) (c .before .before .before .before .before .before .before .before .if3 .taken) (c .before .before .before .before .before .before .put3 .ensures) (c .before .before .put-tails .ensures)
+returns-3 c =
+    let args = c .before .before .before .before .before .before .before .before .before .before .before .before .args in
+    let if2 = c .before .before .before .before .before .before .before .before .before .if2 in
+    let if3 = c .before .before .before .before .before .before .before .before .if3 in
+    let put3 = c .before .before .before .before .before .before .put3 in
+    let put-tails = c .before .before .put-tails in
+    wrote-three (args .out .now) (args .c) (args .at) (put3 .last .0) (put-tails .last .0) (if2 .left) (if3 .taken) (put3 .ensures) (put-tails .ensures)
 
 add-put-3 : tie.Need-add-put-3
 add-put-3 c = search needs
@@ -98,7 +114,13 @@ same-length-4 : tie.Need-same-length-4
 same-length-4 c = search needs
 
 returns-4 : tie.Need-returns-4
-returns-4 c = wrote-four (c .before .before .before .before .before .before .before .before .before .before .before .before .before .before .before .before .args .out .now) (c .before .before .before .before .before .before .before .before .before .before .before .before .before .before .before .before .args .c) (c .before .before .before .before .before .before .before .before .before .before .before .before .before .before .before .before .args .at) (c .before .before .before .before .before .before .before .before .before .before .put4 .last .0) (c .before .before .before .before .before .before .put-tail2 .last .0) (c .before .before .put-tails2 .last .0) (c .before .before .before .before .before .before .before .before .before .before .before .before .if3 .left) (c .before .before .before .before .before .before .before .before .before .before .put4 .ensures) (c .before .before .before .before .before .before .put-tail2 .ensures) (c .before .before .put-tails2 .ensures)
+returns-4 c =
+    let args = c .before .before .before .before .before .before .before .before .before .before .before .before .before .before .before .before .args in
+    let if3 = c .before .before .before .before .before .before .before .before .before .before .before .before .if3 in
+    let put4 = c .before .before .before .before .before .before .before .before .before .before .put4 in
+    let put-tail2 = c .before .before .before .before .before .before .put-tail2 in
+    let put-tails2 = c .before .before .put-tails2 in
+    wrote-four (args .out .now) (args .c) (args .at) (put4 .last .0) (put-tail2 .last .0) (put-tails2 .last .0) (if3 .left) (put4 .ensures) (put-tail2 .ensures) (put-tails2 .ensures)
 
 pub put-char-spec : {M : Type 1} → statement M
 put-char-spec =

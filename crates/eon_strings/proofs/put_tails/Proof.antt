@@ -20,7 +20,9 @@ same-length : tie.Need-same-length
 same-length c = search needs
 
 returns : tie.Need-returns
-returns c = c .before .before .put-tail2 .ensures ∙ rw (c .before .before .before .before .before .before .put-tail .ensures)
+returns c =
+    let put-tail = c .before .before .before .before .before .before .put-tail in
+    c .before .before .put-tail2 .ensures ∙ rw (put-tail .ensures)
 
 pub put-tails-spec : {M : Type 1} → statement M
 put-tails-spec =

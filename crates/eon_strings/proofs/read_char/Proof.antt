@@ -44,22 +44,34 @@ in-digits-requires : tie.Need-in-digits-requires
 in-digits-requires c κs = good-mode (c .before .before .before .args .mode) (Digits (c .before .mode .given .0 .0) (c .before .mode .given .0 .1 .0)) (c .before .mode .given .1) (c .before .before .before .pre .1)
 
 returns : tie.Need-returns
-returns c = (by-mode (c .before .before .args .mode) Literal (c .before .before .args .c) (Put (c .before .before .args .c) Literal) (c .enum-told .given .1) (λ s. refl), (c .before .before .pre .0, tt))
+returns c =
+    let args = c .before .before .args in
+    (by-mode (args .mode) Literal (args .c) (Put (args .c) Literal) (c .enum-told .given .1) (λ s. refl), (c .before .before .pre .0, tt))
 
 returns-2 : tie.Need-returns-2
-returns-2 c = (by-mode (c .before .before .before .args .mode) _ (c .before .before .before .args .c) (c .in-plain .result) (c .before .enum-told2 .given .1) (c .in-plain .ensures .0), c .in-plain .ensures .1)
+returns-2 c =
+    let args = c .before .before .before .args in
+    (by-mode (args .mode) _ (args .c) (c .in-plain .result) (c .before .enum-told2 .given .1) (c .in-plain .ensures .0), c .in-plain .ensures .1)
 
 returns-3 : tie.Need-returns-3
-returns-3 c = (by-mode (c .before .before .before .args .mode) _ (c .before .before .before .args .c) (c .in-backslash .result) (c .before .enum-told3 .given .1) (c .in-backslash .ensures .0), c .in-backslash .ensures .1)
+returns-3 c =
+    let args = c .before .before .before .args in
+    (by-mode (args .mode) _ (args .c) (c .in-backslash .result) (c .before .enum-told3 .given .1) (c .in-backslash .ensures .0), c .in-backslash .ensures .1)
 
 returns-4 : tie.Need-returns-4
-returns-4 c = (by-mode (c .before .before .before .args .mode) _ (c .before .before .before .args .c) (c .in-blanks .result) (c .before .enum-told4 .given .1) (c .in-blanks .ensures .0), c .in-blanks .ensures .1)
+returns-4 c =
+    let args = c .before .before .before .args in
+    (by-mode (args .mode) _ (args .c) (c .in-blanks .result) (c .before .enum-told4 .given .1) (c .in-blanks .ensures .0), c .in-blanks .ensures .1)
 
 returns-5 : tie.Need-returns-5
-returns-5 c = (by-mode (c .before .before .before .args .mode) _ (c .before .before .before .args .c) (c .in-unicode .result) (c .before .enum-told5 .given .1) (c .in-unicode .ensures .0), c .in-unicode .ensures .1)
+returns-5 c =
+    let args = c .before .before .before .args in
+    (by-mode (args .mode) _ (args .c) (c .in-unicode .result) (c .before .enum-told5 .given .1) (c .in-unicode .ensures .0), c .in-unicode .ensures .1)
 
 returns-6 : tie.Need-returns-6
-returns-6 c = (by-mode (c .before .before .before .before .args .mode) _ (c .before .before .before .before .args .c) (c .in-digits .result) (c .before .before .mode .given .1) (c .in-digits .ensures .0), c .in-digits .ensures .1)
+returns-6 c =
+    let args = c .before .before .before .before .args in
+    (by-mode (args .mode) _ (args .c) (c .in-digits .result) (c .before .before .mode .given .1) (c .in-digits .ensures .0), c .in-digits .ensures .1)
 
 pub read-char-spec : {M : Type 1} → statement M
 read-char-spec =

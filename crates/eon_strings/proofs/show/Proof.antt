@@ -17,7 +17,9 @@ lies-within-requires : tie.Need-lies-within-requires
 lies-within-requires c κs = search needs
 
 add-end : tie.Need-add-end
-add-end c = omega (arith, leb-true (c .before .before .before .before .before .before .args .start + c .before .before .before .before .before .before .args .len) (length (c .before .before .before .before .before .before .args .scratch .now)) (sym (c .before .lies-within .ensures) ∙ c .if1 .taken))
+add-end c =
+    let args = c .before .before .before .before .before .before .args in
+    omega (arith, leb-true (args .start + args .len) (length (args .scratch .now)) (sym (c .before .lies-within .ensures) ∙ c .if1 .taken))
 
 sub-result : tie.Need-sub-result
 sub-result c = search needs
@@ -26,16 +28,22 @@ part-result-start : tie.Need-part-result-start
 part-result-start c = search needs
 
 part-result-end : tie.Need-part-result-end
-part-result-end c = omega (arith, leb-true (c .before .before .before .before .before .before .args .start + c .before .before .before .before .before .before .args .len) (length (c .before .before .before .before .before .before .args .scratch .now)) (sym (c .before .lies-within .ensures) ∙ c .if1 .taken))
+part-result-end c =
+    let args = c .before .before .before .before .before .before .args in
+    omega (arith, leb-true (args .start + args .len) (length (args .scratch .now)) (sym (c .before .lies-within .ensures) ∙ c .if1 .taken))
 
 returns : tie.Need-returns
-returns c = show-scratch (c .before .before .before .before .before .before .before .args .which) (c .before .before .before .before .before .before .before .args .quoted .now) (c .before .before .before .before .before .before .before .args .scratch .now) (c .before .before .before .before .before .before .before .args .start) (c .before .before .before .before .before .before .before .args .len) (c .before .before .before .enum-told .given .1) (leb-true (c .before .before .before .before .before .before .before .args .start + c .before .before .before .before .before .before .before .args .len) (length (c .before .before .before .before .before .before .before .args .scratch .now)) (sym (c .before .before .lies-within .ensures) ∙ c .before .if1 .taken))
+returns c =
+    let args = c .before .before .before .before .before .before .before .args in
+    show-scratch (args .which) (args .quoted .now) (args .scratch .now) (args .start) (args .len) (c .before .before .before .enum-told .given .1) (leb-true (args .start + args .len) (length (args .scratch .now)) (sym (c .before .before .lies-within .ensures) ∙ c .before .if1 .taken))
 
 slice-aggregate-result : tie.Need-slice-aggregate-result
 slice-aggregate-result c = search needs
 
 returns-2 : tie.Need-returns-2
-returns-2 c = show-no-scratch (c .before .before .before .before .before .before .before .args .which) (c .before .before .before .before .before .before .before .args .quoted .now) (c .before .before .before .before .before .before .before .args .scratch .now) (c .before .before .before .before .before .before .before .args .start) (c .before .before .before .before .before .before .before .args .len) (c .before .before .before .enum-told .given .1) (leb-false (c .before .before .before .before .before .before .before .args .start + c .before .before .before .before .before .before .before .args .len) (length (c .before .before .before .before .before .before .before .args .scratch .now)) (sym (c .before .before .lies-within .ensures) ∙ c .before .if1 .left))
+returns-2 c =
+    let args = c .before .before .before .before .before .before .before .args in
+    show-no-scratch (args .which) (args .quoted .now) (args .scratch .now) (args .start) (args .len) (c .before .before .before .enum-told .given .1) (leb-false (args .start + args .len) (length (args .scratch .now)) (sym (c .before .before .lies-within .ensures) ∙ c .before .if1 .left))
 
 enum-told-2 : tie.Need-enum-told-2
 enum-told-2 c = search needs
@@ -44,7 +52,9 @@ lies-within-requires-2 : tie.Need-lies-within-requires-2
 lies-within-requires-2 c κs = search needs
 
 add-end-2 : tie.Need-add-end-2
-add-end-2 c = omega (arith, leb-true (c .before .before .before .before .before .before .args .start + c .before .before .before .before .before .before .args .len) (length (c .before .before .before .before .before .before .args .quoted .now)) (sym (c .before .lies-within2 .ensures) ∙ c .if2 .taken))
+add-end-2 c =
+    let args = c .before .before .before .before .before .before .args in
+    omega (arith, leb-true (args .start + args .len) (length (args .quoted .now)) (sym (c .before .lies-within2 .ensures) ∙ c .if2 .taken))
 
 sub-result-2 : tie.Need-sub-result-2
 sub-result-2 c = search needs
@@ -53,16 +63,22 @@ part-result-start-2 : tie.Need-part-result-start-2
 part-result-start-2 c = search needs
 
 part-result-end-2 : tie.Need-part-result-end-2
-part-result-end-2 c = omega (arith, leb-true (c .before .before .before .before .before .before .args .start + c .before .before .before .before .before .before .args .len) (length (c .before .before .before .before .before .before .args .quoted .now)) (sym (c .before .lies-within2 .ensures) ∙ c .if2 .taken))
+part-result-end-2 c =
+    let args = c .before .before .before .before .before .before .args in
+    omega (arith, leb-true (args .start + args .len) (length (args .quoted .now)) (sym (c .before .lies-within2 .ensures) ∙ c .if2 .taken))
 
 returns-3 : tie.Need-returns-3
-returns-3 c = show-quoted (c .before .before .before .before .before .before .before .args .which) (c .before .before .before .before .before .before .before .args .quoted .now) (c .before .before .before .before .before .before .before .args .scratch .now) (c .before .before .before .before .before .before .before .args .start) (c .before .before .before .before .before .before .before .args .len) (c .before .before .before .enum-told2 .given .1) (leb-true (c .before .before .before .before .before .before .before .args .start + c .before .before .before .before .before .before .before .args .len) (length (c .before .before .before .before .before .before .before .args .quoted .now)) (sym (c .before .before .lies-within2 .ensures) ∙ c .before .if2 .taken))
+returns-3 c =
+    let args = c .before .before .before .before .before .before .before .args in
+    show-quoted (args .which) (args .quoted .now) (args .scratch .now) (args .start) (args .len) (c .before .before .before .enum-told2 .given .1) (leb-true (args .start + args .len) (length (args .quoted .now)) (sym (c .before .before .lies-within2 .ensures) ∙ c .before .if2 .taken))
 
 slice-aggregate-result-2 : tie.Need-slice-aggregate-result-2
 slice-aggregate-result-2 c = search needs
 
 returns-4 : tie.Need-returns-4
-returns-4 c = show-no-quoted (c .before .before .before .before .before .before .before .args .which) (c .before .before .before .before .before .before .before .args .quoted .now) (c .before .before .before .before .before .before .before .args .scratch .now) (c .before .before .before .before .before .before .before .args .start) (c .before .before .before .before .before .before .before .args .len) (c .before .before .before .enum-told2 .given .1) (leb-false (c .before .before .before .before .before .before .before .args .start + c .before .before .before .before .before .before .before .args .len) (length (c .before .before .before .before .before .before .before .args .quoted .now)) (sym (c .before .before .lies-within2 .ensures) ∙ c .before .if2 .left))
+returns-4 c =
+    let args = c .before .before .before .before .before .before .before .args in
+    show-no-quoted (args .which) (args .quoted .now) (args .scratch .now) (args .start) (args .len) (c .before .before .before .enum-told2 .given .1) (leb-false (args .start + args .len) (length (args .quoted .now)) (sym (c .before .before .lies-within2 .ensures) ∙ c .before .if2 .left))
 
 pub show-spec : {M : Type 1} → statement M
 show-spec =

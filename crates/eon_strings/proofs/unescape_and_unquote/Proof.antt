@@ -1,7 +1,7 @@
 -- 1 and 2 first, then what stands between the quotes.
 use borrow.Author.Needs.{needs}
 use native.Mathlib.Omega.{arith}
-use mathlib.Core.Path.{_≡_}
+use mathlib.Core.Path.{_≡_, sym, _∙_}
 use lib.ListN.{length}
 use Rattle.eon_spec.specs.Unquote.{unquoteChars}
 use Rattle.eon_strings.specs.Views.{kept}
@@ -13,7 +13,9 @@ new-requires : tie.Need-new-requires
 new-requires c κs = search needs
 
 returns : tie.Need-returns
-returns c = long-refused (c .before .before .before .before .args .quoted .now) (c .before .before .before .before .args .scratch .now) (c .new .result) (c .new .ensures) (c .before .if1 .taken)
+returns c =
+    let args = c .before .before .before .before .args in
+    long-refused (args .quoted .now) (args .scratch .now) (c .new .result) (c .new .ensures) (c .before .if1 .taken)
 
 well-formed-len-requires : tie.Need-well-formed-len-requires
 well-formed-len-requires c κs = search needs
@@ -23,31 +25,41 @@ new-requires-2 c κs = search needs
 
 returns-2 : tie.Need-returns-2
 returns-2 c =
+    let args = c .before .before .before .before .before .before .args in
     let n = c .before .before .well-formed-len in
-    bad-refused (c .before .before .before .before .before .before .args .quoted .now) (c .before .before .before .before .before .before .args .scratch .now) (c .new2 .result) (n .result) (c .new2 .ensures) (n .ensures) (c .before .before .before .if1 .left) (c .before .if2 .taken)
+    bad-refused (args .quoted .now) (args .scratch .now) (c .new2 .result) (n .result) (c .new2 .ensures) (n .ensures) (c .before .before .before .if1 .left) (c .before .if2 .taken)
 
 in-quotes-requires : tie.Need-in-quotes-requires
-in-quotes-requires c κs = search needs
+in-quotes-requires c κs =
+    let args = c .before .before .before .before .before .args in
+    let n = c .before .well-formed-len in
+    let e : n .result ≡ length (args .quoted .now) = omega arith in
+    sym (n .ensures) ∙ e
 
 enum-known-c : tie.Need-enum-known-c
 enum-known-c c = search needs
 
 placed-requires : tie.Need-placed-requires
 placed-requires c κs =
-    let q = c .before .before .before .before .before .before .before .before .before .before .args .quoted .now in
-    let h = contents-at q (unquoteChars (kept q 0)) (c .before .before .before .before .in-quotes .result) _ (c .before .before .c .given .1) (c .before .before .before .before .in-quotes .ensures) in
-    (h .1, omega arith, h .2)
+    let args = c .before .before .before .before .before .before .before .before .before .before .args in
+    let in-quotes = c .before .before .before .before .in-quotes in
+    let q = args .quoted .now in
+    let h = contents-at q (unquoteChars (kept q 0)) (in-quotes .result) _ (c .before .before .c .given .1) (in-quotes .ensures) in
+    (h .1, h .2, omega arith)
 
 same-length : tie.Need-same-length
 same-length c = search needs
 
 returns-3 : tie.Need-returns-3
 returns-3 c =
-    let q = c .before .before .before .before .before .before .before .before .before .before .before .before .before .args .quoted .now in
+    let args = c .before .before .before .before .before .before .before .before .before .before .before .before .before .args in
+    let in-quotes = c .before .before .before .before .before .before .before .in-quotes in
+    let its-c = c .before .before .before .before .before .c in
+    let q = args .quoted .now in
     let n = c .before .before .before .before .before .before .before .before .before .well-formed-len in
     let e : n .result ≡ length q = omega arith in
-    let h = contents-at q (unquoteChars (kept q 0)) (c .before .before .before .before .before .before .before .in-quotes .result) _ (c .before .before .before .before .before .c .given .1) (c .before .before .before .before .before .before .before .in-quotes .ensures) in
-    text-placed q (c .before .before .before .before .before .before .before .before .before .before .before .before .before .args .scratch .now) _ _ (good-is q (c .before .before .before .before .before .before .before .before .before .before .before .before .before .args .scratch .now) (n .result) (n .ensures) (omega arith) e) (h .0) (c .before .before .placed .ensures)
+    let h = contents-at q (unquoteChars (kept q 0)) (in-quotes .result) _ (its-c .given .1) (in-quotes .ensures) in
+    text-placed q (args .scratch .now) _ _ (good-is q (args .scratch .now) (n .result) (n .ensures) (omega arith) e) (h .0) (c .before .before .placed .ensures)
 
 enum-known-c-2 : tie.Need-enum-known-c-2
 enum-known-c-2 c = search needs
@@ -57,11 +69,13 @@ new-requires-3 c κs = search needs
 
 returns-4 : tie.Need-returns-4
 returns-4 c =
-    let q = c .before .before .before .before .before .before .before .before .before .before .args .quoted .now in
+    let args = c .before .before .before .before .before .before .before .before .before .before .args in
+    let in-quotes = c .before .before .before .before .in-quotes in
+    let q = args .quoted .now in
     let n = c .before .before .before .before .before .before .well-formed-len in
     let e : n .result ≡ length q = omega arith in
-    let h = contents-at q (unquoteChars (kept q 0)) (c .before .before .before .before .in-quotes .result) _ (c .before .before .c2 .given .1) (c .before .before .before .before .in-quotes .ensures) in
-    fault-refused q (c .before .before .before .before .before .before .before .before .before .before .args .scratch .now) _ (c .new3 .result) (good-is q (c .before .before .before .before .before .before .before .before .before .before .args .scratch .now) (n .result) (n .ensures) (omega arith) e) (c .new3 .ensures) (h .0)
+    let h = contents-at q (unquoteChars (kept q 0)) (in-quotes .result) _ (c .before .before .c2 .given .1) (in-quotes .ensures) in
+    fault-refused q (args .scratch .now) _ (c .new3 .result) (good-is q (args .scratch .now) (n .result) (n .ensures) (omega arith) e) (c .new3 .ensures) (h .0)
 
 pub unescape-and-unquote-spec : {M : Type 1} → statement M
 unescape-and-unquote-spec =
