@@ -1,17 +1,17 @@
 -- Laws of what was written.
 use Prim.Native.Nat.{ℕ, zero, suc, _+_, _-_, _≤_, _<_}
 use mathlib.Core.Path.{_≡_, refl, sym, ap, _∙_, subst}
-use mathlib.Core.Bool.{Bool, true, false, not}
+use mathlib.Core.Bool.{Bool, true, false}
 use mathlib.Core.List.{List, [], _∷_, _++_, append-assoc, append-nil}
 use native.Mathlib.Numerals.{add-one}
 use Rattle.eon_spec.specs.Layout.{Settings, addIndent}
 use Rattle.eon_spec.specs.Base.{elem}
-use borrow.Author.Tests.{ne-eqb, not-true}
+use borrow.Author.Tests.{ne-eqb}
 use native.Mathlib.Omega.{arith}
 use native.Mathlib.Nat.{add-zero, add-suc, suc-add}
 use native.Mathlib.Decide.{decLe}
 use lib.ListN.{length, take, drop, length-append, length-drop, set, getD, drop-of-length-le}
-use lib.Seq.{sets, length-sets, set-out, take-suc, getD-drop, drop-cons, take-nil, length-take-le}
+use lib.Seq.{sets, length-sets, set-out, take-suc, getD-drop, drop-cons, take-nil, length-take-le, take-add}
 use Rattle.eon_format.specs.Put.{Wrote, written, part}
 
 sets-append : (l : List ℕ) (i : ℕ) (b c : List ℕ) → sets l i (b ++ c) ≡ sets (sets l i b) (i + length b) c
@@ -85,27 +85,59 @@ wrote-then {live} {out} {at} {b} {c} {r} {r′} {out′} w v =
 pub wrote-as : {live : Bool} {out : List ℕ} {at : ℕ} {b c : List ℕ} {r : ℕ} {out′ : List ℕ} → b ≡ c → Wrote live out at b r out′ → Wrote live out at c r out′
 wrote-as {live} {out} {at} {r = r} {out′ = out′} e w = subst (λ (x : List ℕ). Wrote live out at x r out′) e w
 
--- measured, with nothing written
-pub measured : {live : Bool} {out : List ℕ} {at : ℕ} {b : List ℕ} {r : ℕ} (n : ℕ) → not live ≡ true → length b ≡ n →
-    (at + n ≤ length out → r ≡ at + n) → (length out < at + n → length out < r) → Wrote live out at b r out
-measured {live} {out} {at} {b} n e l p q =
-    record { fits = λ h. p (omega arith) ∙ ap (λ (k : ℕ). at + k) (sym l); full = λ h. q (omega arith); memory = rw (not-true live e) }
+-- past the end of the memory nothing changes
+pub wrote-past : {live : Bool} {out : List ℕ} {at : ℕ} {b : List ℕ} {r : ℕ} → length out < at → length out < r → Wrote live out at b r out
+wrote-past {live} {out} {at} {b} p q = record { fits = λ h. omega arith; full = λ h. q; memory = kept live }
+  where
+    kept : (v : Bool) → out ≡ written v out at b
+    kept true = sym (sets-out out at b (omega arith))
+    kept false = refl
+
+-- one byte more of a copy
+pub copy-more : (out s : List ℕ) (at from i : ℕ) → from + i < length s →
+    set (sets out at (take i (drop from s))) (at + i) (getD s (from + i) 0) ≡ sets out at (take (i + 1) (drop from s))
+copy-more out s at from i h =
+    let l : length (drop from s) ≡ length s - from = length-drop from s in
+    let d : i < length (drop from s) = omega arith in
+    let e : length (take i (drop from s)) ≡ i = length-take-le i (drop from s) (omega arith) in
+    sym (rw (add-one, take-suc (drop from s) i 0 d, sets-append, e, getD-drop from s i 0) refl)
 
 pub part-length : (s : List ℕ) (from to : ℕ) → to ≤ length s → length (part s from to) ≡ to - from
 part-length s from to h = let l : length (drop from s) ≡ length s - from = length-drop from s in length-take-le (to - from) (drop from s) (omega arith)
 
--- one byte more of a part
-pub part-none : (s : List ℕ) (from : ℕ) → part s from from ≡ []
-part-none s from = let e : from - from ≡ 0 = omega arith in rw e
+-- a part, measured and not written
+pub measured : {live : Bool} {out : List ℕ} {at : ℕ} {r : ℕ} (s : List ℕ) (from to : ℕ) → live ≡ false → to ≤ length s →
+    (at + (to - from) ≤ length out → r ≡ at + (to - from)) → (length out < at + (to - from) → length out < r) → Wrote live out at (part s from to) r out
+measured {at = at} s from to e h p q =
+    let l : length (part s from to) ≡ to - from = part-length s from to h in
+    record { fits = λ f. p (omega arith) ∙ ap (λ (k : ℕ). at + k) (sym l); full = λ f. q (omega arith); memory = rw e }
 
-pub part-more : (s : List ℕ) (from i : ℕ) → from ≤ i → i < length s → part s from (i + 1) ≡ part s from i ++ (getD s i 0 ∷ [])
-part-more s from i h k =
-    let e : i + 1 - from ≡ suc (i - from) = omega arith in
-    let d : from + (i - from) ≡ i = omega arith in
-    let l : length (drop from s) ≡ length s - from = length-drop from s in
-    ap (λ (n : ℕ). take n (drop from s)) e
-    ∙ take-suc (drop from s) (i - from) 0 (omega arith)
-    ∙ ap (λ (x : ℕ). part s from i ++ (x ∷ [])) (getD-drop from s (i - from) 0 ∙ ap (λ (n : ℕ). getD s n 0) d)
+-- the first k bytes of a part, copied: all of them, or as many as the memory holds
+pub copied : {live : Bool} {out : List ℕ} {at : ℕ} {r : ℕ} {out′ : List ℕ} (k : ℕ) (s : List ℕ) (from to : ℕ) → live ≡ true → to ≤ length s →
+    k ≤ to - from → (k < to - from → length out ≤ at + k) → out′ ≡ sets out at (take k (drop from s)) →
+    (at + (to - from) ≤ length out → r ≡ at + (to - from)) → (length out < at + (to - from) → length out < r) → Wrote live out at (part s from to) r out′
+copied {out = out} {at = at} k s from to v h j room e p q =
+    let l : length (part s from to) ≡ to - from = part-length s from to h in
+    record {
+      fits = λ f. p (omega arith) ∙ ap (λ (x : ℕ). at + x) (sym l);
+      full = λ f. q (omega arith);
+      memory = rw v (e ∙ rest (to - from - k) (omega arith));
+    }
+  where
+    rest : (x : ℕ) → k + x ≡ to - from → sets out at (take k (drop from s)) ≡ sets out at (part s from to)
+    rest zero z = ap (λ (n : ℕ). sets out at (take n (drop from s))) (sym (add-zero k) ∙ z)
+    rest (suc x) z =
+        let b = take k (drop from s) in
+        let d : length (drop from s) ≡ length s - from = length-drop from s in
+        let l : length b ≡ k = length-take-le k (drop from s) (omega arith) in
+        let y : length out ≤ at + k = room (omega arith) in
+        let w : length (sets out at b) ≡ length out = length-sets out at b in
+        let c = take (suc x) (drop k (drop from s)) in
+        sym
+        (ap (λ (n : ℕ). sets out at (take n (drop from s))) (sym z)
+        ∙ ap (sets out at) (take-add k (suc x) (drop from s))
+        ∙ sets-append out at b c
+        ∙ sets-out (sets out at b) (at + length b) c (omega arith))
 
 -- an indentation, from the front and from the end
 pub times : List ℕ → ℕ → List ℕ

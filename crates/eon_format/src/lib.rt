@@ -3,7 +3,8 @@ ghost use mathlib.Core.Path.{_≡_};
 ghost use mathlib.Core.List.{List, [], _∷_, _++_};
 ghost use Prim.Native.Nat.{ℕ, _+_, _-_, _<_, _≤_};
 ghost use lib.Dec.{eqb};
-ghost use lib.ListN.{length, take};
+ghost use lib.ListN.{length, take, drop};
+ghost use lib.Seq.{sets};
 ghost use mathlib.Core.Option.{Option};
 ghost use Rattle.eon_spec.specs.Tree.{Slice, TokenTree, TokenValue, TokenTrees, KeyValues, listOf, mapOf, variantOf};
 ghost use Rattle.eon_spec.specs.Layout.{Settings, addIndent, suffixComment, value, indentedValue, shared, isContainer, mapContent, closing, noKeyValues, format, textOf, settingsOf};
@@ -79,37 +80,56 @@ fn put(out: &mut [u8], live: bool, at: usize, b: u8) -> usize
     out.len() + 1
 }
 
-// The bytes of `src` from `from` up to `to`. Measuring reads none of them.
+// `n` bytes of `src` from `from` on, to `at` on: all of them fit, so a turn tests nothing else.
+fn copy(src: &[u8], from: usize, n: usize, out: &mut [u8], at: usize)
+    requires { ⌜ (from + n ≤ length (now src)) × (at + n ≤ length (now out)) ⌝ }
+    ensures { λ r. ⌜ now (out .exit) ≡ sets (now (out .entry)) at (take n (drop from (now (src .entry)))) ⌝ }
+{
+    let mut i: usize = 0;
+    while i < n {
+        out[at + i] = src[from + i];
+        i += 1;
+    }
+}
+
+// The bytes of `src` from `from` up to `to`, as far as they fit. Measuring reads none of them.
 fn put_part(src: &[u8], from: usize, to: usize, out: &mut [u8], live: bool, at: usize) -> usize
     requires { ⌜ (from ≤ to) × (to ≤ length (now src)) ⌝ }
     ensures { λ r. ⌜ Wrote live (now (out .entry)) at (part (now (src .entry)) from to) r (now (out .exit)) ⌝ }
 {
-    if !live {
-        let n = to - from;
-        if out.len() < at {
-            return out.len() + 1;
-        }
-        if out.len() - at < n {
-            return out.len() + 1;
+    if out.len() < at {
+        return out.len() + 1;
+    }
+    let n = to - from;
+    let room = out.len() - at;
+    if n <= room {
+        if live {
+            copy(src, from, n, out, at);
+            return at + n;
         }
         return at + n;
     }
-    let mut at = at;
-    let mut i = from;
-    while i < to {
-        at = put(out, live, at, src[i]);
-        i += 1;
+    if live {
+        copy(src, from, room, out, at);
+        return out.len() + 1;
     }
-    at
+    out.len() + 1
 }
 
+// Most settings have one byte: a call of `copy` would cost more than this loop.
 fn put_setting(s: Setting, out: &mut [u8], live: bool, at: usize) -> usize
     requires { ⌜ s .len ≤ 16 ⌝ }
     ensures { λ r. ⌜ Wrote live (now (out .entry)) at (textOf s) r (now (out .exit)) ⌝ }
 {
     let bytes = s.bytes;
     let len = s.len;
-    put_part(&bytes, 0, len, out, live, at)
+    let mut at = at;
+    let mut i: usize = 0;
+    while i < len {
+        at = put(out, live, at, bytes[i]);
+        i += 1;
+    }
+    at
 }
 
 fn newline(o: FormatOptions, out: &mut [u8], live: bool, at: usize) -> usize
@@ -367,18 +387,15 @@ fn on_one_line(text: &[u8], table: &[u32], i: usize, end: usize) -> bool
     wide < 60
 }
 
-// A value that needs no lines.
+// Whether a list, map or variant with something in it needs no lines.
 fn is_flat(text: &[u8], table: &[u32], i: usize) -> bool
-    requires { ⌜ (i < length (now table)) × (0 < word (now table) i 4) ⌝ }
+    requires { ⌜ (i < length (now table)) × (0 < word (now table) i 4) × (word (now table) i 4 ≡ 1 → ⊥) ⌝ }
     ensures { λ r. ⌜ r ≡ flatAt (now (text .entry)) (now (table .entry)) i ⌝ }
 {
-    let size = word(table, i, 4);
-    if size == 1 {
-        return true;
-    }
     if word(table, i, 0) == 5 {
         return false;
     }
+    let size = word(table, i, 4);
     on_one_line(text, table, i + 1, i + size)
 }
 
@@ -452,15 +469,12 @@ fn put_row(
     put(out, live, at, right)
 }
 
-// A value that needs no lines.
+// A list or variant with something in it that needs no lines.
 fn put_flat(text: &[u8], table: &[u32], i: usize, out: &mut [u8], live: bool, at: usize) -> usize
-    requires { ⌜ (i < length (now table)) × (SomeValue (now text) (now table) i) × (flatAt (now text) (now table) i ≡ true) ⌝ }
+    requires { ⌜ (i < length (now table)) × (SomeValue (now text) (now table) i) × (flatAt (now text) (now table) i ≡ true) × (word (now table) i 4 ≡ 1 → ⊥) ⌝ }
     ensures { λ r. ⌜ ((o : Settings) (n : ℕ) (v : TokenValue) → ValueAt (now (text .entry)) (now (table .entry)) i v → Wrote live (now (out .entry)) at (value o n v) r (now (out .exit))) ⌝ }
 {
     let size = word(table, i, 4);
-    if size == 1 {
-        return put_plain(text, table, i, out, live, at);
-    }
     if word(table, i, 0) == 4 {
         return put_row(text, table, i + 1, i + size, 91, 93, out, live, at);
     }
@@ -642,6 +656,7 @@ fn indented_value(
     suffix_comment(text, table, k, end, out, live, at)
 }
 
+// A value. A simple one is written here, so that it costs no call with a large frame.
 fn value(
     text: &[u8],
     table: &[u32],
@@ -653,6 +668,26 @@ fn value(
     at: usize,
 ) -> usize
     requires { ⌜ (Short o) × (n ≤ i) × (SomeValue (now text) (now table) i) ⌝ }
+    ensures { λ r. ⌜ ((v : TokenValue) → ValueAt (now (text .entry)) (now (table .entry)) i v → Wrote live (now (out .entry)) at (value (settingsOf o) n v) r (now (out .exit))) ⌝ }
+{
+    if word(table, i, 4) == 1 {
+        return put_plain(text, table, i, out, live, at);
+    }
+    container(text, table, o, i, n, out, live, at)
+}
+
+// A list, map or variant with something in it.
+fn container(
+    text: &[u8],
+    table: &[u32],
+    o: FormatOptions,
+    i: usize,
+    n: usize,
+    out: &mut [u8],
+    live: bool,
+    at: usize,
+) -> usize
+    requires { ⌜ (Short o) × (n ≤ i) × (SomeValue (now text) (now table) i) × (word (now table) i 4 ≡ 1 → ⊥) ⌝ }
     ensures { λ r. ⌜ ((v : TokenValue) → ValueAt (now (text .entry)) (now (table .entry)) i v → Wrote live (now (out .entry)) at (value (settingsOf o) n v) r (now (out .exit))) ⌝ }
 {
     if is_flat(text, table, i) {

@@ -26,16 +26,20 @@ loop-less : tie.Need-loop-less Inv-loop μ-loop
 loop-less c = omega arith
 
 loop-again : tie.Need-loop-again Inv-loop μ-loop
-loop-again c = (omega arith, wrote-as (times-more (textOf (c .before .before .before .before .before .before .before .before .args .o .indentation)) (c .before .before .before .before .before .loop .k)) (wrote-then (c .before .before .before .before .before .loop .inv .1) (c .before .before .put-setting .ensures)))
+loop-again c =
+    let args = c .before .before .before .before .before .before .before .before .args in
+    let loop = c .before .before .before .before .before .loop in
+    (omega arith, wrote-as (times-more (textOf (args .o .indentation)) (loop .k)) (wrote-then (loop .inv .1) (c .before .before .put-setting .ensures)))
 
 same-length : tie.Need-same-length Inv-loop μ-loop
 same-length c = wrote-length (c .before .loop .inv .1)
 
 returns : tie.Need-returns Inv-loop μ-loop
 returns c =
-    let o = settingsOf (c .before .before .before .before .args .o) in
-    let e : c .before .loop .k ≡ c .before .before .before .before .args .n = omega arith in
-    wrote-as (ap (times (o .indentation)) e ∙ times-indent o (c .before .before .before .before .args .n)) (c .before .loop .inv .1)
+    let args = c .before .before .before .before .args in
+    let o = settingsOf (args .o) in
+    let e : c .before .loop .k ≡ args .n = omega arith in
+    wrote-as (ap (times (o .indentation)) e ∙ times-indent o (args .n)) (c .before .loop .inv .1)
 
 pub add-indent-spec : {M : Type 1} → statement M
 add-indent-spec =

@@ -19,7 +19,9 @@ is-prefix : (c : tie.Then1 Inv-loop μ-loop) → word (now (c .before .before .b
 is-prefix c = sym (c .before .word .ensures .0) ∙ c .if1 .taken
 
 inside : (c : tie.Then1 Inv-loop μ-loop) → c .before .before .loop .j < length (now (c .before .before .before .before .args .table))
-inside c = word-in (now (c .before .before .before .before .args .table)) (c .before .before .loop .j) 0 6 (is-prefix c)
+inside c =
+    let args = c .before .before .before .before .args in
+    word-in (now (args .table)) (c .before .before .loop .j) 0 6 (is-prefix c)
 
 below : (c : tie.Then1 Inv-loop μ-loop) (k : ℕ) → c .before .before .before .before .args .i ≤ k → k < c .before .before .loop .j + 1 → word (now (c .before .before .before .before .args .table)) k 0 ≡ 7
 below c k a b = go (decLe (c .before .before .loop .j) k)
@@ -44,7 +46,9 @@ loop-again : tie.Need-loop-again Inv-loop μ-loop
 loop-again c = (omega arith, λ k a b. below c k a b)
 
 returns : tie.Need-returns Inv-loop μ-loop
-returns c = record { from = c .before .before .loop .inv .0; prefix = c .before .before .loop .inv .1; ends = λ h. c .if1 .left (c .before .word .ensures .0 ∙ h) }
+returns c =
+    let loop = c .before .before .loop in
+    record { from = loop .inv .0; prefix = loop .inv .1; ends = λ h. c .if1 .left (c .before .word .ensures .0 ∙ h) }
 
 pub after-prefix-spec : {M : Type 1} → statement M
 after-prefix-spec =

@@ -19,7 +19,10 @@ same-length : tie.Need-same-length
 same-length c = search needs
 
 returns : tie.Need-returns
-returns c = wrote-then (wrote-then (c .before .before .before .before .before .before .before .before .before .before .closing .ensures) (c .before .before .before .before .before .before .add-indent .ensures)) (c .before .before .put .ensures)
+returns c =
+    let closing = c .before .before .before .before .before .before .before .before .before .before .closing in
+    let add-indent = c .before .before .before .before .before .before .add-indent in
+    wrote-then (wrote-then (closing .ensures) (add-indent .ensures)) (c .before .before .put .ensures)
 
 pub close-lines-spec : {M : Type 1} → statement M
 close-lines-spec =

@@ -15,8 +15,9 @@ same-length c = search needs
 
 returns : tie.Need-returns
 returns c =
+    let if2 = c .before .before .before .before .if2 in
     let a = c .before .before .before .before .before .before .before .before .before .args in
-    wrote-as (closing-empty (now (a .text)) (now (a .table)) (settingsOf (a .o)) (a .n) (a .i) (a .end) (a .empty) (omega arith) (c .before .before .before .before .if2 .taken)) (c .before .before .indented-comments .ensures)
+    wrote-as (closing-empty (now (a .text)) (now (a .table)) (settingsOf (a .o)) (a .n) (a .i) (a .end) (a .empty) (omega arith) (if2 .taken)) (c .before .before .indented-comments .ensures)
 
 newline-requires : tie.Need-newline-requires
 newline-requires c κs = search needs
@@ -29,8 +30,10 @@ same-length-2 c = search needs
 
 returns-2 : tie.Need-returns-2
 returns-2 c =
+    let if2 = c .before .before .before .before .before .before .before .before .if2 in
+    let newline = c .before .before .before .before .before .before .newline in
     let a = c .before .before .before .before .before .before .before .before .before .before .before .before .before .args in
-    wrote-as (closing-items (now (a .text)) (now (a .table)) (settingsOf (a .o)) (a .n) (a .i) (a .end) (a .empty) (omega arith) (c .before .before .before .before .before .before .before .before .if2 .left)) (wrote-then (c .before .before .before .before .before .before .newline .ensures) (c .before .before .indented-comments2 .ensures))
+    wrote-as (closing-items (now (a .text)) (now (a .table)) (settingsOf (a .o)) (a .n) (a .i) (a .end) (a .empty) (omega arith) (if2 .left)) (wrote-then (newline .ensures) (c .before .before .indented-comments2 .ensures))
 
 returns-3 : tie.Need-returns-3
 returns-3 c =

@@ -18,16 +18,20 @@ holds s tb end t e l = subst (λ (n : ℕ). TreeAt s tb n 0 t) (sym l) (table-ho
 
 lay-out-requires : tie.Need-lay-out-requires
 lay-out-requires c κs =
-    let q = c .before .before .before .before .pre .1 in
-    (settings-short (c .before .before .before .before .args .o) (c .before .before .before .before .pre .0), (q .0, holds (now (c .before .before .before .before .args .text)) (now (c .before .before .before .before .args .table)) (c .before .before .before .before .args .end) (q .0) (q .1) (q .2)))
+    let args = c .before .before .before .before .args in
+    let pre = c .before .before .before .before .pre in
+    let q = pre .1 in
+    (settings-short (args .o) (pre .0), (q .0, holds (now (args .text)) (now (args .table)) (args .end) (q .0) (q .1) (q .2)))
 
 same-length : tie.Need-same-length
 same-length c = search needs
 
 returns : tie.Need-returns
 returns c =
-    let q = c .before .before .before .before .before .before .before .pre .1 in
-    c .before .before .lay-out .ensures (q .0) (holds (now (c .before .before .before .before .before .before .before .args .text)) (now (c .before .before .before .before .before .before .before .args .table)) (c .before .before .before .before .before .before .before .args .end) (q .0) (q .1) (q .2)) ∙ formatted (now (c .before .before .before .before .before .before .before .args .text)) (now (c .before .before .before .before .before .before .before .args .table)) (c .before .before .before .before .before .before .before .args .o) (now (c .before .before .before .before .before .before .before .args .out)) (q .0) (c .before .before .before .before .before .before .before .pre .0) (q .1)
+    let args = c .before .before .before .before .before .before .before .args in
+    let pre = c .before .before .before .before .before .before .before .pre in
+    let q = pre .1 in
+    c .before .before .lay-out .ensures (q .0) (holds (now (args .text)) (now (args .table)) (args .end) (q .0) (q .1) (q .2)) ∙ formatted (now (args .text)) (now (args .table)) (args .o) (now (args .out)) (q .0) (pre .0) (q .1)
 
 pub format-finished-spec : {M : Type 1} → statement M
 format-finished-spec = tie.close (tie.spec lay-out-requires same-length returns)

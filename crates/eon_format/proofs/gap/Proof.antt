@@ -21,7 +21,11 @@ same-length : tie.Need-same-length
 same-length c = search needs
 
 returns-2 : tie.Need-returns-2
-returns-2 c = let a = c .before .before .before .before .before .before .before .before .before .args in wrote-as (gap-lines (settingsOf (a .o)) (now (a .table)) (a .first) (a .i) (c .before .before .before .before .before .before .if1 .left) (sym (c .before .before .before .before .before .word .ensures .0) ∙ c .before .before .before .before .if2 .taken)) (c .before .before .newline .ensures)
+returns-2 c =
+    let if1 = c .before .before .before .before .before .before .if1 in
+    let its-word = c .before .before .before .before .before .word in
+    let if2 = c .before .before .before .before .if2 in
+    let a = c .before .before .before .before .before .before .before .before .before .args in wrote-as (gap-lines (settingsOf (a .o)) (now (a .table)) (a .first) (a .i) (if1 .left) (sym (its-word .ensures .0) ∙ if2 .taken)) (c .before .before .newline .ensures)
 
 returns-3 : tie.Need-returns-3
 returns-3 c = let a = c .before .before .before .before .before .args in wrote-as (gap-none (settingsOf (a .o)) (now (a .table)) (a .first) (a .i) (c .before .before .if1 .left) (λ e. c .if2 .left (c .before .word .ensures .0 ∙ e))) wrote-none

@@ -10,7 +10,9 @@ use Rattle.eon_format.proofs.good_setting.Statement.{statement}
 use Rattle.eon_format.proofs.good_setting.Tie as tie
 
 returns : tie.Need-returns
-returns c = ap (λ (b : Bool). b && isUtf8 (textOf (c .before .before .args .s))) (sym (lt-leb (c .before .before .args .s .len) 16 (c .if1 .taken)))
+returns c =
+    let args = c .before .before .args in
+    ap (λ (b : Bool). b && isUtf8 (textOf (args .s))) (sym (lt-leb (args .s .len) 16 (c .if1 .taken)))
 
 slice-aggregate-well-formed : tie.Need-slice-aggregate-well-formed
 slice-aggregate-well-formed c = search needs
@@ -19,7 +21,9 @@ well-formed-requires : tie.Need-well-formed-requires
 well-formed-requires c κs = let e : length (c .before .before .before .args .s .bytes) ≡ 16 = search needs in omega arith
 
 returns-2 : tie.Need-returns-2
-returns-2 c = c .well-formed .ensures ∙ ap (λ (b : Bool). b && isUtf8 (textOf (c .before .before .before .before .args .s))) (sym (le-leb (c .before .before .before .before .args .s .len) 16 (c .before .before .if1 .left)))
+returns-2 c =
+    let args = c .before .before .before .before .args in
+    c .well-formed .ensures ∙ ap (λ (b : Bool). b && isUtf8 (textOf (args .s))) (sym (le-leb (args .s .len) 16 (c .before .before .if1 .left)))
 
 pub good-setting-spec : {M : Type 1} → statement M
 good-setting-spec =

@@ -34,19 +34,30 @@ good-setting-requires-2 : tie.Need-good-setting-requires-2
 good-setting-requires-2 c κs = search needs
 
 returns-2 : tie.Need-returns-2
-returns-2 c = all-second _ _ _ _ (is-good (c .before .before .before .before .good-setting .ensures) (c .before .before .before .if1 .left)) (is-bad (c .before .good-setting2 .ensures) (c .if2 .taken))
+returns-2 c =
+    let good-setting = c .before .before .before .before .good-setting in
+    all-second _ _ _ _ (is-good (good-setting .ensures) (c .before .before .before .if1 .left)) (is-bad (c .before .good-setting2 .ensures) (c .if2 .taken))
 
 good-setting-requires-3 : tie.Need-good-setting-requires-3
 good-setting-requires-3 c κs = search needs
 
 returns-3 : tie.Need-returns-3
-returns-3 c = all-third _ _ _ _ (is-good (c .before .before .before .before .before .before .before .good-setting .ensures) (c .before .before .before .before .before .before .if1 .left)) (is-good (c .before .before .before .before .good-setting2 .ensures) (c .before .before .before .if2 .left)) (is-bad (c .before .good-setting3 .ensures) (c .if3 .taken))
+returns-3 c =
+    let good-setting = c .before .before .before .before .before .before .before .good-setting in
+    let if1 = c .before .before .before .before .before .before .if1 in
+    let good-setting2 = c .before .before .before .before .good-setting2 in
+    all-third _ _ _ _ (is-good (good-setting .ensures) (if1 .left)) (is-good (good-setting2 .ensures) (c .before .before .before .if2 .left)) (is-bad (c .before .good-setting3 .ensures) (c .if3 .taken))
 
 good-setting-requires-4 : tie.Need-good-setting-requires-4
 good-setting-requires-4 c κs = search needs
 
 returns-4 : tie.Need-returns-4
-returns-4 c = c .good-setting4 .ensures ∙ all-last _ _ _ _ (is-good (c .before .before .before .before .before .before .before .before .before .good-setting .ensures) (c .before .before .before .before .before .before .before .before .if1 .left)) (is-good (c .before .before .before .before .before .before .good-setting2 .ensures) (c .before .before .before .before .before .if2 .left)) (is-good (c .before .before .before .good-setting3 .ensures) (c .before .before .if3 .left))
+returns-4 c =
+    let good-setting = c .before .before .before .before .before .before .before .before .before .good-setting in
+    let if1 = c .before .before .before .before .before .before .before .before .if1 in
+    let good-setting2 = c .before .before .before .before .before .before .good-setting2 in
+    let if2 = c .before .before .before .before .before .if2 in
+    c .good-setting4 .ensures ∙ all-last _ _ _ _ (is-good (good-setting .ensures) (if1 .left)) (is-good (good-setting2 .ensures) (if2 .left)) (is-good (c .before .before .before .good-setting3 .ensures) (c .before .before .if3 .left))
 
 pub good-settings-spec : {M : Type 1} → statement M
 good-settings-spec =

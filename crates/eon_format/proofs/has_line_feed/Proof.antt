@@ -24,16 +24,21 @@ word-requires-2 c κs = omega arith
 
 loop-holds : tie.Need-loop-holds Inv-loop μ-loop
 loop-holds c =
-    let s = now (c .before .before .before .before .args .text) in
-    let p : word (now (c .before .before .before .before .args .table)) (c .before .before .before .before .args .i) 1 ≡ c .word2 .result = sym (c .word2 .ensures .0) in
-    let q : word (now (c .before .before .before .before .args .table)) (c .before .before .before .before .args .i) 2 ≡ c .before .word .result = sym (c .before .word .ensures .0) in
-    (omega arith, ap (λ (x : ℕ). elem 10 (part s x (word (now (c .before .before .before .before .args .table)) (c .before .before .before .before .args .i) 2))) p ∙ ap (λ (x : ℕ). elem 10 (part s (c .word2 .result) x)) q)
+    let args = c .before .before .before .before .args in
+    let s = now (args .text) in
+    let p : word (now (args .table)) (args .i) 1 ≡ c .word2 .result = sym (c .word2 .ensures .0) in
+    let q : word (now (args .table)) (args .i) 2 ≡ c .before .word .result = sym (c .before .word .ensures .0) in
+    (omega arith, ap (λ (x : ℕ). elem 10 (part s x (word (now (args .table)) (args .i) 2))) p ∙ ap (λ (x : ℕ). elem 10 (part s (c .word2 .result) x)) q)
 
 shared-slice-read-if2 : tie.Need-shared-slice-read-if2 Inv-loop μ-loop
 shared-slice-read-if2 c = omega arith
 
 returns : tie.Need-returns Inv-loop μ-loop
-returns c = sym (c .before .before .before .before .loop .inv .1 ∙ feed-here (now (c .before .before .before .before .before .before .before .before .before .args .text)) (c .before .before .before .before .loop .j) (c .before .before .before .before .before .before .word .result) (omega arith) (omega arith) (c .if2 .taken))
+returns c =
+    let args = c .before .before .before .before .before .before .before .before .before .args in
+    let its-word = c .before .before .before .before .before .before .word in
+    let loop = c .before .before .before .before .loop in
+    sym (loop .inv .1 ∙ feed-here (now (args .text)) (loop .j) (its-word .result) (omega arith) (omega arith) (c .if2 .taken))
 
 add-j : tie.Need-add-j Inv-loop μ-loop
 add-j c = omega arith
@@ -43,13 +48,18 @@ loop-less c = omega arith
 
 loop-again : tie.Need-loop-again Inv-loop μ-loop
 loop-again c =
-    let s = now (c .before .before .before .before .before .before .before .args .text) in
-    let j = c .before .before .loop .j in
-    let to = c .before .before .before .before .word .result in
-    (omega arith, c .before .before .loop .inv .1 ∙ ⊎-elim (λ w. feed-on s j to (omega arith) (omega arith) (w .2 .left)) (λ w. feed-past s j to (omega arith)) (c .if1 .came))
+    let args = c .before .before .before .before .before .before .before .args in
+    let its-word = c .before .before .before .before .word in
+    let loop = c .before .before .loop in
+    let s = now (args .text) in
+    let j = loop .j in
+    let to = its-word .result in
+    (omega arith, loop .inv .1 ∙ ⊎-elim (λ w. feed-on s j to (omega arith) (omega arith) (w .2 .left)) (λ w. feed-past s j to (omega arith)) (c .if1 .came))
 
 returns-2 : tie.Need-returns-2 Inv-loop μ-loop
-returns-2 c = sym (c .before .loop .inv .1 ∙ ap (elem 10) (part-end (now (c .before .before .before .before .before .before .args .text)) (c .before .loop .j) (c .before .before .before .word .result) (omega arith)))
+returns-2 c =
+    let args = c .before .before .before .before .before .before .args in
+    sym (c .before .loop .inv .1 ∙ ap (elem 10) (part-end (now (args .text)) (c .before .loop .j) (c .before .before .before .word .result) (omega arith)))
 
 pub has-line-feed-spec : {M : Type 1} → statement M
 has-line-feed-spec =

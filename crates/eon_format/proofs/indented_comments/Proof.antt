@@ -18,13 +18,20 @@ loop-holds : tie.Need-loop-holds Inv-loop μ-loop
 loop-holds c = (omega arith, going-start)
 
 add-indent-requires : tie.Need-add-indent-requires Inv-loop μ-loop
-add-indent-requires c κs = c .before .before .before .before .before .before .pre .0
+add-indent-requires c κs =
+    let pre = c .before .before .before .before .before .before .pre in
+    pre .0
 
 put-text-requires : tie.Need-put-text-requires Inv-loop μ-loop
-put-text-requires c κs = c .before .before .before .before .before .before .before .before .before .before .pre .1 (c .before .before .before .before .before .before .loop .j) (c .before .before .before .before .before .before .loop .inv .0) (omega arith)
+put-text-requires c κs =
+    let pre = c .before .before .before .before .before .before .before .before .before .before .pre in
+    let loop = c .before .before .before .before .before .before .loop in
+    pre .1 (loop .j) (loop .inv .0) (omega arith)
 
 newline-requires : tie.Need-newline-requires Inv-loop μ-loop
-newline-requires c κs = c .before .before .before .before .before .before .before .before .before .before .before .before .before .before .pre .0
+newline-requires c κs =
+    let pre = c .before .before .before .before .before .before .before .before .before .before .before .before .before .before .pre in
+    pre .0
 
 add-j : tie.Need-add-j Inv-loop μ-loop
 add-j c = omega arith
@@ -34,9 +41,12 @@ loop-less c = omega arith
 
 loop-again : tie.Need-loop-again Inv-loop μ-loop
 loop-again c =
+    let loop = c .before .before .before .before .before .before .before .before .before .before .before .before .before .loop in
+    let add-indent = c .before .before .before .before .before .before .before .before .before .before .add-indent in
+    let put-text = c .before .before .before .before .before .before .put-text in
     let a = c .before .before .before .before .before .before .before .before .before .before .before .before .before .before .before .before .before .args in
-    let w = wrote-then (wrote-then (c .before .before .before .before .before .before .before .before .before .before .add-indent .ensures) (c .before .before .before .before .before .before .put-text .ensures)) (c .before .before .newline .ensures) in
-    (omega arith, going-step (c .before .before .before .before .before .before .before .before .before .before .before .before .before .loop .inv .1) (lines-more (now (a .text)) (now (a .table)) (settingsOf (a .o)) (a .n) (c .before .before .before .before .before .before .before .before .before .before .before .before .before .loop .j) (a .end) (omega arith)) w)
+    let w = wrote-then (wrote-then (add-indent .ensures) (put-text .ensures)) (c .before .before .newline .ensures) in
+    (omega arith, going-step (loop .inv .1) (lines-more (now (a .text)) (now (a .table)) (settingsOf (a .o)) (a .n) (loop .j) (a .end) (omega arith)) w)
 
 same-length : tie.Need-same-length Inv-loop μ-loop
 same-length c = going-length (c .before .loop .inv .1)

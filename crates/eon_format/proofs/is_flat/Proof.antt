@@ -3,7 +3,7 @@ use Prim.Native.Nat.{ℕ, _+_}
 use denote.Ref.{now}
 use Rattle.eon_format.specs.Tabled.{word}
 use Rattle.eon_format.specs.Flat.{oneLineAt}
-use Rattle.eon_format.proofs.Records.{flat-one, flat-map, flat-more}
+use Rattle.eon_format.proofs.Records.{flat-map, flat-more}
 use borrow.Author.Needs.{needs}
 use Rattle.eon_format.proofs.is_flat.Statement.{statement}
 use Rattle.eon_format.proofs.is_flat.Tie as tie
@@ -12,13 +12,13 @@ word-requires : tie.Need-word-requires
 word-requires c κs = search needs
 
 returns : tie.Need-returns
-returns c = let a = c .before .before .before .before .args in flat-one (now (a .text)) (now (a .table)) (a .i) (sym (c .before .word .ensures .0) ∙ c .if1 .taken)
+returns c =
+    let a = c .before .before .before .before .args in
+    let g = c .before .before .before .before .pre in
+    flat-map (now (a .text)) (now (a .table)) (a .i) (g .2) (sym (c .before .word .ensures .0) ∙ c .if1 .taken)
 
 word-requires-2 : tie.Need-word-requires-2
 word-requires-2 c κs = search needs
-
-returns-2 : tie.Need-returns-2
-returns-2 c = let a = c .before .before .before .before .before .before .args in flat-map (now (a .text)) (now (a .table)) (a .i) (λ e. c .before .before .if1 .left (c .before .before .before .word .ensures .0 ∙ e)) (sym (c .before .word2 .ensures .0) ∙ c .if2 .taken)
 
 add-on-one-line : tie.Need-add-on-one-line
 add-on-one-line c = search needs
@@ -29,12 +29,13 @@ add-on-one-line-2 c = search needs
 on-one-line-requires : tie.Need-on-one-line-requires
 on-one-line-requires c κs = search needs
 
-returns-3 : tie.Need-returns-3
-returns-3 c =
-    let a = c .before .before .before .before .before .before .before .args in
+returns-2 : tie.Need-returns-2
+returns-2 c =
+    let a = c .before .before .before .before .before .before .args in
+    let g = c .before .before .before .before .before .before .pre in
     c .on-one-line .ensures
-    ∙ ap (λ (x : ℕ). oneLineAt (now (a .text)) (now (a .table)) (a .i + x) (a .i + 1)) (c .before .before .before .before .word .ensures .0)
-    ∙ flat-more (now (a .text)) (now (a .table)) (a .i) (λ e. c .before .before .before .if1 .left (c .before .before .before .before .word .ensures .0 ∙ e)) (λ e. c .before .if2 .left (c .before .before .word2 .ensures .0 ∙ e))
+    ∙ ap (λ (x : ℕ). oneLineAt (now (a .text)) (now (a .table)) (a .i + x) (a .i + 1)) (c .before .word2 .ensures .0)
+    ∙ flat-more (now (a .text)) (now (a .table)) (a .i) (g .2) (λ e. c .before .before .if1 .left (c .before .before .before .word .ensures .0 ∙ e))
 
 pub is-flat-spec : {M : Type 1} → statement M
 is-flat-spec =
@@ -43,8 +44,7 @@ is-flat-spec =
     word-requires
     returns
     word-requires-2
-    returns-2
     add-on-one-line
     add-on-one-line-2
     on-one-line-requires
-    returns-3)
+    returns-2)

@@ -13,7 +13,9 @@ same-length : tie.Need-same-length
 same-length c = search needs
 
 returns : tie.Need-returns
-returns c = wrote-then (c .before .before .before .before .before .before .indented-comments .ensures) (c .before .before .add-indent .ensures)
+returns c =
+    let indented-comments = c .before .before .before .before .before .before .indented-comments in
+    wrote-then (indented-comments .ensures) (c .before .before .add-indent .ensures)
 
 pub lead-spec : {M : Type 1} → statement M
 lead-spec = tie.close (tie.spec indented-comments-requires add-indent-requires same-length returns)

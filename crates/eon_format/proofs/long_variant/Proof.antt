@@ -42,55 +42,87 @@ add-base : tie.Need-add-base Inv-loop μ-loop
 add-base c = omega arith
 
 open-lines-requires : tie.Need-open-lines-requires Inv-loop μ-loop
-open-lines-requires c κs = c .before .before .before .before .before .pre .0
+open-lines-requires c κs =
+    let pre = c .before .before .before .before .before .pre in
+    pre .0
 
 loop-holds : tie.Need-loop-holds Inv-loop μ-loop
-loop-holds c = let a = c .before .before .before .before .before .before .before .before .args in (omega arith, λ vs cl h. through-start (now (a .text)) (now (a .table)) (a .i + c .before .before .before .before .word .result) (lineEnds (settingsOf (a .o))) vs cl (a .i + 1) h wrote-none)
+loop-holds c =
+    let its-word = c .before .before .before .before .word in
+    let a = c .before .before .before .before .before .before .before .before .args in (omega arith, λ vs cl h. through-start (now (a .text)) (now (a .table)) (a .i + its-word .result) (lineEnds (settingsOf (a .o))) vs cl (a .i + 1) h wrote-none)
 
 more-requires : tie.Need-more-requires Inv-loop μ-loop
 more-requires c κs = search needs
 
 gap-requires : tie.Need-gap-requires Inv-loop μ-loop
-gap-requires c κs = c .before .before .before .before .before .before .before .before .before .before .before .before .pre .0
+gap-requires c κs =
+    let pre = c .before .before .before .before .before .before .before .before .before .before .before .before .pre in
+    pre .0
 
 newline-requires : tie.Need-newline-requires Inv-loop μ-loop
-newline-requires c κs = c .before .before .before .before .before .before .before .before .before .before .before .before .before .before .before .before .pre .0
+newline-requires c κs =
+    let pre = c .before .before .before .before .before .before .before .before .before .before .before .before .before .before .before .before .pre in
+    pre .0
 
 next-tree-requires : tie.Need-next-tree-requires Inv-loop μ-loop
-next-tree-requires c κs = (now (c .before .before .before .before .before .before .before .before .before .before .before .before .before .before .before .before .before .before .before .args .text), tree-here (c .before .before .before .before .before .before .before .before))
+next-tree-requires c κs =
+    let args = c .before .before .before .before .before .before .before .before .before .before .before .before .before .before .before .before .before .before .before .args in
+    let before = c .before .before .before .before .before .before .before .before in
+    (now (args .text), tree-here before)
 
 loop-less : tie.Need-loop-less Inv-loop μ-loop
 loop-less c =
-    let u = tree-here (c .before .before .before .before .before .before .before .before .before) in
-    let l : c .before .before .before .before .before .before .before .before .before .before .before .loop .j < c .before .before .before .before .before .before .before .before .before .before .before .before .before .before .before .before .before .before .before .before .args .i + c .before .before .before .before .before .before .before .before .before .before .before .before .before .before .before .before .word .result = more-in (now (c .before .before .before .before .before .before .before .before .before .before .before .before .before .before .before .before .before .before .before .before .args .table)) (c .before .before .before .before .before .before .before .before .before .before .before .before .before .before .before .before .before .before .before .before .args .i + c .before .before .before .before .before .before .before .before .before .before .before .before .before .before .before .before .word .result) (c .before .before .before .before .before .before .before .before .before .before .before .loop .j) (sym (c .before .before .before .before .before .before .before .before .before .before .more .ensures) ∙ c .before .before .before .before .before .before .before .before .before .if1 .taken) in
-    let z : c .next-tree .result ≡ c .before .before .before .before .before .before .before .before .before .before .before .loop .j + sizeTree (u .0) = c .next-tree .ensures (now (c .before .before .before .before .before .before .before .before .before .before .before .before .before .before .before .before .before .before .before .before .args .text)) (u .0) (u .1) in
+    let args = c .before .before .before .before .before .before .before .before .before .before .before .before .before .before .before .before .before .before .before .before .args in
+    let its-word = c .before .before .before .before .before .before .before .before .before .before .before .before .before .before .before .before .word in
+    let loop = c .before .before .before .before .before .before .before .before .before .before .before .loop in
+    let more = c .before .before .before .before .before .before .before .before .before .before .more in
+    let if1 = c .before .before .before .before .before .before .before .before .before .if1 in
+    let before = c .before .before .before .before .before .before .before .before .before in
+    let u = tree-here before in
+    let l : loop .j < args .i + its-word .result = more-in (now (args .table)) (args .i + its-word .result) (loop .j) (sym (more .ensures) ∙ if1 .taken) in
+    let z : c .next-tree .result ≡ loop .j + sizeTree (u .0) = c .next-tree .ensures (now (args .text)) (u .0) (u .1) in
     let p : 1 ≤ sizeTree (u .0) = tree-pos (u .0) in
     omega arith
 
 loop-again : tie.Need-loop-again Inv-loop μ-loop
 loop-again c =
-    let s = now (c .before .before .before .before .before .before .before .before .before .before .before .before .before .before .before .before .before .before .before .before .args .text) in
-    let tb = now (c .before .before .before .before .before .before .before .before .before .before .before .before .before .before .before .before .before .before .before .before .args .table) in
-    let o = settingsOf (c .before .before .before .before .before .before .before .before .before .before .before .before .before .before .before .before .before .before .before .before .args .o) in
-    let end = c .before .before .before .before .before .before .before .before .before .before .before .before .before .before .before .before .before .before .before .before .args .i + c .before .before .before .before .before .before .before .before .before .before .before .before .before .before .before .before .word .result in
-    let j = c .before .before .before .before .before .before .before .before .before .before .before .loop .j in
-    let u = tree-here (c .before .before .before .before .before .before .before .before .before) in
+    let args = c .before .before .before .before .before .before .before .before .before .before .before .before .before .before .before .before .before .before .before .before .args in
+    let its-word = c .before .before .before .before .before .before .before .before .before .before .before .before .before .before .before .before .word in
+    let loop = c .before .before .before .before .before .before .before .before .before .before .before .loop in
+    let more = c .before .before .before .before .before .before .before .before .before .before .more in
+    let if1 = c .before .before .before .before .before .before .before .before .before .if1 in
+    let before = c .before .before .before .before .before .before .before .before .before in
+    let its-gap = c .before .before .before .before .before .before .before .gap in
+    let s = now (args .text) in
+    let tb = now (args .table) in
+    let o = settingsOf (args .o) in
+    let end = args .i + its-word .result in
+    let j = loop .j in
+    let u = tree-here before in
     let z : c .next-tree .result ≡ j + sizeTree (u .0) = c .next-tree .ensures s (u .0) (u .1) in (
       omega arith,
-      λ vs cl h. through-step s tb end (c .next-tree .result) (λ b t. gap o b t ++ o .newline) (ends-body o) (c .before .before .before .before .before .before .before .before .before .before .before .loop .inv .1 vs cl h) (sym (c .before .before .before .before .before .before .before .before .before .before .more .ensures) ∙ c .before .before .before .before .before .before .before .before .before .if1 .taken) (c .before .before .before .before .before .before .before .before .before .before .before .loop .inv .0)
-          (λ t k. wrote-as (ap (λ (x : List ℕ). x ++ o .newline) (tree-gap s tb o end j (eqb j (c .before .before .before .before .before .before .before .before .before .before .before .before .before .before .before .before .before .before .before .before .args .i + 1)) t k)) (wrote-then (c .before .before .before .before .before .before .before .gap .ensures) (c .before .before .before .newline .ensures)))
+      λ vs cl h. through-step s tb end (c .next-tree .result) (λ b t. gap o b t ++ o .newline) (ends-body o) (loop .inv .1 vs cl h) (sym (more .ensures) ∙ if1 .taken) (loop .inv .0)
+          (λ t k. wrote-as (ap (λ (x : List ℕ). x ++ o .newline) (tree-gap s tb o end j (eqb j (args .i + 1)) t k)) (wrote-then (its-gap .ensures) (c .before .before .before .newline .ensures)))
           (c .next-tree .ensures s),
     )
 
 close-lines-requires : tie.Need-close-lines-requires Inv-loop μ-loop
 close-lines-requires c κs =
-    let q = c .before .before .before .before .before .before .before .before .before .before .before .before .pre .3 in
-    (c .before .before .before .before .before .before .before .before .before .before .before .before .pre .0, inside-texts (now (c .before .before .before .before .before .before .before .before .before .before .before .before .args .text)) (now (c .before .before .before .before .before .before .before .before .before .before .before .before .args .table)) (c .before .before .before .before .before .before .before .before .before .before .before .before .args .i + c .before .before .before .before .before .before .before .before .word .result) (c .before .before .before .loop .j) (q .1) (trees-done (c .before) (q .0) (q .1) (q .2)), omega arith)
+    let args = c .before .before .before .before .before .before .before .before .before .before .before .before .args in
+    let pre = c .before .before .before .before .before .before .before .before .before .before .before .before .pre in
+    let its-word = c .before .before .before .before .before .before .before .before .word in
+    let q = pre .3 in
+    (pre .0, inside-texts (now (args .text)) (now (args .table)) (args .i + its-word .result) (c .before .before .before .loop .j) (q .1) (trees-done (c .before) (q .0) (q .1) (q .2)), omega arith)
 
 same-length : tie.Need-same-length Inv-loop μ-loop
 same-length c =
-    let q = c .before .before .before .before .before .before .before .before .before .before .before .before .before .before .before .pre .3 in
-    c .before .before .close-lines .kept .1 .1 .1 .1 .1 .1 .1 .1 .0 ∙ going-length (c .before .before .before .before .before .before .loop .inv .1 (q .0) (q .1) (inside-by (now (c .before .before .before .before .before .before .before .before .before .before .before .before .before .before .before .args .text)) (now (c .before .before .before .before .before .before .before .before .before .before .before .before .before .before .before .args .table)) (c .before .before .before .before .before .before .before .before .before .before .before .before .before .before .before .args .i) (c .before .before .before .before .before .before .before .before .before .before .before .word .result) (c .before .before .before .before .before .before .before .before .before .before .before .word .ensures .0) (q .0) (q .1) (q .2)) .going) ∙ c .before .before .before .before .before .before .before .before .before .open-lines .kept .1 .1 .0
+    let args = c .before .before .before .before .before .before .before .before .before .before .before .before .before .before .before .args in
+    let pre = c .before .before .before .before .before .before .before .before .before .before .before .before .before .before .before .pre in
+    let its-word = c .before .before .before .before .before .before .before .before .before .before .before .word in
+    let open-lines = c .before .before .before .before .before .before .before .before .before .open-lines in
+    let loop = c .before .before .before .before .before .before .loop in
+    let q = pre .3 in
+    c .before .before .close-lines .kept .1 .1 .1 .1 .1 .1 .1 .1 .0 ∙ going-length (loop .inv .1 (q .0) (q .1) (inside-by (now (args .text)) (now (args .table)) (args .i) (its-word .result) (its-word .ensures .0) (q .0) (q .1) (q .2)) .going) ∙ open-lines .kept .1 .1 .0
 
 returns : tie.Need-returns Inv-loop μ-loop
 returns c vs cl h₀ =

@@ -18,9 +18,10 @@ word-requires c κs = search needs
 
 add-k : tie.Need-add-k
 add-k c =
+    let pre = c .before .before .before .pre in
     let a = c .before .before .before .args in
     let r = c .before .after-prefix .result in
-    let l : r < length (now (a .table)) = value-in (c .before .before .before .pre .0) (now (a .table)) r _ (tree-value (c .before .before .before .pre .0) (now (a .table)) (a .end) (a .i) r (c .before .before .before .pre .1 .0) (c .before .before .before .pre .1 .1) (c .before .after-prefix .ensures)) in
+    let l : r < length (now (a .table)) = value-in (pre .0) (now (a .table)) r _ (tree-value (pre .0) (now (a .table)) (a .end) (a .i) r (pre .1 .0) (pre .1 .1) (c .before .after-prefix .ensures)) in
     omega arith
 
 has-suffix-requires : tie.Need-has-suffix-requires
@@ -28,9 +29,11 @@ has-suffix-requires c κs = search needs
 
 add-result : tie.Need-add-result
 add-result c =
+    let pre = c .before .before .before .before .before .pre in
+    let after-prefix = c .before .before .before .after-prefix in
     let a = c .before .before .before .before .before .args in
-    let r = c .before .before .before .after-prefix .result in
-    let l : r < length (now (a .table)) = value-in (c .before .before .before .before .before .pre .0) (now (a .table)) r _ (tree-value (c .before .before .before .before .before .pre .0) (now (a .table)) (a .end) (a .i) r (c .before .before .before .before .before .pre .1 .0) (c .before .before .before .before .before .pre .1 .1) (c .before .before .before .after-prefix .ensures)) in
+    let r = after-prefix .result in
+    let l : r < length (now (a .table)) = value-in (pre .0) (now (a .table)) r _ (tree-value (pre .0) (now (a .table)) (a .end) (a .i) r (pre .1 .0) (pre .1 .1) (after-prefix .ensures)) in
     omega arith
 
 returns : tie.Need-returns

@@ -31,13 +31,17 @@ word-requires : tie.Need-word-requires Inv-loop μ-loop
 word-requires c κs = omega arith
 
 returns-2 : tie.Need-returns-2 Inv-loop μ-loop
-returns-2 c = let a = c .before .before .before .before .before .before .before .args in sym (c .before .before .before .loop .inv .4 ∙ line-closing (now (a .text)) (now (a .table)) (a .end) (c .before .before .before .loop .numbers) (c .before .before .before .loop .wide) (c .before .before .before .loop .j) (omega arith) (sym (c .before .word .ensures .0) ∙ c .if2 .taken))
+returns-2 c =
+    let loop = c .before .before .before .loop in
+    let a = c .before .before .before .before .before .before .before .args in sym (loop .inv .4 ∙ line-closing (now (a .text)) (now (a .table)) (a .end) (loop .numbers) (loop .wide) (loop .j) (omega arith) (sym (c .before .word .ensures .0) ∙ c .if2 .taken))
 
 is-simple-requires : tie.Need-is-simple-requires Inv-loop μ-loop
 is-simple-requires c κs = omega arith
 
 returns-3 : tie.Need-returns-3 Inv-loop μ-loop
-returns-3 c = let a = c .before .before .before .before .before .before .before .before .before .args in sym (c .before .before .before .before .before .loop .inv .4 ∙ line-stop (now (a .text)) (now (a .table)) (a .end) (c .before .before .before .before .before .loop .numbers) (c .before .before .before .before .before .loop .wide) (c .before .before .before .before .before .loop .j) (omega arith) (λ e. c .before .before .if2 .left (c .before .before .before .word .ensures .0 ∙ e)) (sym (c .before .is-simple .ensures) ∙ not-true (c .before .is-simple .result) (c .if3 .taken)))
+returns-3 c =
+    let loop = c .before .before .before .before .before .loop in
+    let a = c .before .before .before .before .before .before .before .before .before .args in sym (loop .inv .4 ∙ line-stop (now (a .text)) (now (a .table)) (a .end) (loop .numbers) (loop .wide) (loop .j) (omega arith) (λ e. c .before .before .if2 .left (c .before .before .before .word .ensures .0 ∙ e)) (sym (c .before .is-simple .ensures) ∙ not-true (c .before .is-simple .result) (c .if3 .taken)))
 
 still-numbers-requires : tie.Need-still-numbers-requires Inv-loop μ-loop
 still-numbers-requires c κs = search needs
@@ -56,28 +60,36 @@ loop-less c = omega arith
 
 loop-again : tie.Need-loop-again Inv-loop μ-loop
 loop-again c =
+    let loop = c .before .before .before .before .before .before .before .loop in
+    let its-word = c .before .before .before .before .before .word in
+    let if2 = c .before .before .before .before .if2 in
+    let is-simple = c .before .before .before .is-simple in
     let a = c .before .before .before .before .before .before .before .before .before .before .before .args in
     let tb = now (a .table) in
-    let j = c .before .before .before .before .before .before .before .loop .j in
-    let w = c .before .before .before .before .before .before .before .loop .wide in
-    let k : c .before .before .before .before .before .word .result ≡ word tb j 0 = c .before .before .before .before .before .word .ensures .0 in
+    let j = loop .j in
+    let w = loop .wide in
+    let k : its-word .result ≡ word tb j 0 = its-word .ensures .0 in
     let e : c .width .result ≡ widthAt (now (a .text)) tb j = c .width .ensures .0 in
-    let f : c .before .still-numbers .result ≡ cond (eqb (word tb j 0) 2) (c .before .before .before .before .before .before .before .loop .numbers) false = c .before .still-numbers .ensures ∙ ap (λ (x : ℕ). cond (eqb x 2) (c .before .before .before .before .before .before .before .loop .numbers) false) k in (
+    let f : c .before .still-numbers .result ≡ cond (eqb (word tb j 0) 2) (loop .numbers) false = c .before .still-numbers .ensures ∙ ap (λ (x : ℕ). cond (eqb x 2) (loop .numbers) false) k in (
       omega arith,
       omega arith,
       omega arith,
       omega arith,
-      c .before .before .before .before .before .before .before .loop .inv .4
-          ∙ line-go (now (a .text)) (now (a .table)) (a .end) (c .before .before .before .before .before .before .before .loop .numbers) w j (omega arith) (λ q. c .before .before .before .before .if2 .left (k ∙ q)) (sym (c .before .before .before .is-simple .ensures) ∙ not-false (c .before .before .before .is-simple .result) (c .before .before .if3 .left))
+      loop .inv .4
+          ∙ line-go (now (a .text)) (now (a .table)) (a .end) (loop .numbers) w j (omega arith) (λ q. if2 .left (k ∙ q)) (sym (is-simple .ensures) ∙ not-false (is-simple .result) (c .before .before .if3 .left))
           ∙ ap (λ (x : Bool). lineAt (now (a .text)) tb (a .end) x (w + widthAt (now (a .text)) tb j) (j + 1) (a .end - (j + 1))) (sym f)
           ∙ ap (λ (x : ℕ). lineAt (now (a .text)) tb (a .end) (c .before .still-numbers .result) (w + x) (j + 1) (a .end - (j + 1))) (sym e),
     )
 
 returns-4 : tie.Need-returns-4 Inv-loop μ-loop
-returns-4 c = let a = c .before .before .before .before .before .before .args in sym (c .before .before .loop .inv .4 ∙ line-end (now (a .text)) (now (a .table)) (a .end) (c .before .before .loop .numbers) (c .before .before .loop .wide) (c .before .before .loop .j) (omega arith) ∙ ap (λ (x : Bool). cond x true (ltb (c .before .before .loop .wide) 60)) (c .if4 .taken))
+returns-4 c =
+    let loop = c .before .before .loop in
+    let a = c .before .before .before .before .before .before .args in sym (loop .inv .4 ∙ line-end (now (a .text)) (now (a .table)) (a .end) (loop .numbers) (loop .wide) (loop .j) (omega arith) ∙ ap (λ (x : Bool). cond x true (ltb (loop .wide) 60)) (c .if4 .taken))
 
 returns-5 : tie.Need-returns-5 Inv-loop μ-loop
-returns-5 c = let a = c .before .before .before .before .before .before .args in sym (c .before .before .loop .inv .4 ∙ line-end (now (a .text)) (now (a .table)) (a .end) (c .before .before .loop .numbers) (c .before .before .loop .wide) (c .before .before .loop .j) (omega arith) ∙ ap (λ (x : Bool). cond x true (ltb (c .before .before .loop .wide) 60)) (c .if4 .left))
+returns-5 c =
+    let loop = c .before .before .loop in
+    let a = c .before .before .before .before .before .before .args in sym (loop .inv .4 ∙ line-end (now (a .text)) (now (a .table)) (a .end) (loop .numbers) (loop .wide) (loop .j) (omega arith) ∙ ap (λ (x : Bool). cond x true (ltb (loop .wide) 60)) (c .if4 .left))
 
 pub on-one-line-spec : {M : Type 1} → statement M
 on-one-line-spec =

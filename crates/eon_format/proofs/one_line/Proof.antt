@@ -18,7 +18,10 @@ loop-holds : tie.Need-loop-holds Inv-loop μ-loop
 loop-holds c = (omega arith, going-start)
 
 put-plain-requires : tie.Need-put-plain-requires Inv-loop μ-loop
-put-plain-requires c κs = c .before .before .before .before .before .before .pre (c .before .before .loop .j) (c .before .before .loop .inv .0) (omega arith)
+put-plain-requires c κs =
+    let pre = c .before .before .before .before .before .before .pre in
+    let loop = c .before .before .loop in
+    pre (loop .j) (loop .inv .0) (omega arith)
 
 add-j : tie.Need-add-j Inv-loop μ-loop
 add-j c = omega arith
@@ -31,9 +34,11 @@ loop-less c = omega arith
 
 loop-again : tie.Need-loop-again Inv-loop μ-loop
 loop-again c =
+    let loop = c .before .before .before .before .before .before .before .before .before .loop in
+    let put-plain = c .before .before .before .before .before .before .put-plain in
     let a = c .before .before .before .before .before .before .before .before .before .before .before .before .before .args in
-    let w = wrote-then (c .before .before .before .before .before .before .put-plain .ensures) (c .before .before .put-comma .ensures) in
-    (omega arith, going-step (c .before .before .before .before .before .before .before .before .before .loop .inv .1) (line-more (now (a .text)) (now (a .table)) (c .before .before .before .before .before .before .before .before .before .loop .j) (a .end) (omega arith)) w)
+    let w = wrote-then (put-plain .ensures) (c .before .before .put-comma .ensures) in
+    (omega arith, going-step (loop .inv .1) (line-more (now (a .text)) (now (a .table)) (loop .j) (a .end) (omega arith)) w)
 
 same-length : tie.Need-same-length Inv-loop μ-loop
 same-length c = going-length (c .before .loop .inv .1)

@@ -13,7 +13,9 @@ same-length : tie.Need-same-length
 same-length c = search needs
 
 returns : tie.Need-returns
-returns c = wrote-then (c .before .before .before .before .before .before .put .ensures) (c .before .before .newline .ensures)
+returns c =
+    let put = c .before .before .before .before .before .before .put in
+    wrote-then (put .ensures) (c .before .before .newline .ensures)
 
 pub open-lines-spec : {M : Type 1} → statement M
 open-lines-spec = tie.close (tie.spec put-requires newline-requires same-length returns)

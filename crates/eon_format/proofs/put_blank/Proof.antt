@@ -25,7 +25,12 @@ same-length : tie.Need-same-length
 same-length c = search needs
 
 returns : tie.Need-returns
-returns c = let a = c .before .before .before .before .before .before .before .before .before .before .before .before .before .before .before .before .args in wrote-as (ap (λ (x : Bool). cond x (codes "[ ]") (codes "{ }")) (sym (eq-eqb (word (now (a .table)) (a .i) 0) 4 (sym (c .before .before .before .before .before .before .before .before .before .before .before .before .before .word .ensures .0) ∙ c .before .before .before .before .before .before .before .before .before .before .before .before .if1 .taken)))) (wrote-then (wrote-then (c .before .before .before .before .before .before .before .before .before .before .put .ensures) (c .before .before .before .before .before .before .put2 .ensures)) (c .before .before .put3 .ensures))
+returns c =
+    let its-word = c .before .before .before .before .before .before .before .before .before .before .before .before .before .word in
+    let if1 = c .before .before .before .before .before .before .before .before .before .before .before .before .if1 in
+    let put = c .before .before .before .before .before .before .before .before .before .before .put in
+    let put2 = c .before .before .before .before .before .before .put2 in
+    let a = c .before .before .before .before .before .before .before .before .before .before .before .before .before .before .before .before .args in wrote-as (ap (λ (x : Bool). cond x (codes "[ ]") (codes "{ }")) (sym (eq-eqb (word (now (a .table)) (a .i) 0) 4 (sym (its-word .ensures .0) ∙ if1 .taken)))) (wrote-then (wrote-then (put .ensures) (put2 .ensures)) (c .before .before .put3 .ensures))
 
 put-requires-4 : tie.Need-put-requires-4
 put-requires-4 c κs = search needs
@@ -40,7 +45,12 @@ same-length-2 : tie.Need-same-length-2
 same-length-2 c = search needs
 
 returns-2 : tie.Need-returns-2
-returns-2 c = let a = c .before .before .before .before .before .before .before .before .before .before .before .before .before .before .before .before .args in wrote-as (ap (λ (x : Bool). cond x (codes "[ ]") (codes "{ }")) (sym (ne-eqb (word (now (a .table)) (a .i) 0) 4 (λ e. c .before .before .before .before .before .before .before .before .before .before .before .before .if1 .left (c .before .before .before .before .before .before .before .before .before .before .before .before .before .word .ensures .0 ∙ e))))) (wrote-then (wrote-then (c .before .before .before .before .before .before .before .before .before .before .put4 .ensures) (c .before .before .before .before .before .before .put5 .ensures)) (c .before .before .put6 .ensures))
+returns-2 c =
+    let its-word = c .before .before .before .before .before .before .before .before .before .before .before .before .before .word in
+    let if1 = c .before .before .before .before .before .before .before .before .before .before .before .before .if1 in
+    let put4 = c .before .before .before .before .before .before .before .before .before .before .put4 in
+    let put5 = c .before .before .before .before .before .before .put5 in
+    let a = c .before .before .before .before .before .before .before .before .before .before .before .before .before .before .before .before .args in wrote-as (ap (λ (x : Bool). cond x (codes "[ ]") (codes "{ }")) (sym (ne-eqb (word (now (a .table)) (a .i) 0) 4 (λ e. if1 .left (its-word .ensures .0 ∙ e))))) (wrote-then (wrote-then (put4 .ensures) (put5 .ensures)) (c .before .before .put6 .ensures))
 
 pub put-blank-spec : {M : Type 1} → statement M
 put-blank-spec =

@@ -20,8 +20,9 @@ same-length c = search needs
 
 returns : tie.Need-returns
 returns c =
+    let put = c .before .before .before .before .before .before .put in
     let a = c .before .before .before .before .before .before .before .before .before .before .args in
-    wrote-as (ap (λ (x : Bool). cond x (codes ", ") []) (sym (lt-ltb (a .j) (a .end) (omega arith)))) (wrote-then (c .before .before .before .before .before .before .put .ensures) (c .before .before .put2 .ensures))
+    wrote-as (ap (λ (x : Bool). cond x (codes ", ") []) (sym (lt-ltb (a .j) (a .end) (omega arith)))) (wrote-then (put .ensures) (c .before .before .put2 .ensures))
 
 returns-2 : tie.Need-returns-2
 returns-2 c =

@@ -3,28 +3,17 @@ use mathlib.Core.List.{[], _∷_, _++_}
 use Prim.Native.Nat.{ℕ, _+_, _-_}
 use native.Mathlib.Omega.{arith}
 use denote.Ref.{now}
-use Rattle.eon_format.specs.Tabled.{word, textAt}
+use Rattle.eon_format.specs.Tabled.{textAt}
 use Rattle.eon_format.specs.Flat.{plainLine}
 use Rattle.eon_format.proofs.Writing.{wrote-then, wrote-as}
-use Rattle.eon_format.proofs.Trees.{value-plain, value-size}
-use Rattle.eon_format.proofs.Rows.{plain-law, flat-plains, flat-list, flat-variant, flat-not-map}
+use Rattle.eon_format.proofs.Trees.{value-plain}
+use Rattle.eon_format.proofs.Rows.{flat-plains, flat-list, flat-variant, flat-not-map}
 use borrow.Author.Needs.{needs}
 use Rattle.eon_format.proofs.put_flat.Statement.{statement}
 use Rattle.eon_format.proofs.put_flat.Tie as tie
 
 word-requires : tie.Need-word-requires
 word-requires c κs = search needs
-
-put-plain-requires : tie.Need-put-plain-requires
-put-plain-requires c κs = let a = c .before .before .before .before .before .before .args in value-plain (now (a .text)) (now (a .table)) (a .i) (c .before .before .before .before .before .before .pre .1 .0) (c .before .before .before .before .before .before .pre .1 .1)
-
-same-length : tie.Need-same-length
-same-length c = search needs
-
-returns : tie.Need-returns
-returns c o n v h =
-    let a = c .before .before .before .before .before .before .before .before .before .args in
-    wrote-as (plain-law (now (a .text)) (now (a .table)) o n (a .i) v h (sym (value-size (now (a .text)) (now (a .table)) (a .i) v h) ∙ sym (c .before .before .before .before .before .word .ensures .0) ∙ c .before .before .before .before .if1 .taken)) (c .before .before .put-plain .ensures)
 
 word-requires-2 : tie.Need-word-requires-2
 word-requires-2 c κs = search needs
@@ -37,25 +26,27 @@ add-put-row-2 c = search needs
 
 put-row-requires : tie.Need-put-row-requires
 put-row-requires c κs j p q =
-    let a = c .before .before .before .before .before .before .before .before .args in
-    flat-plains (now (a .text)) (now (a .table)) (a .i) (c .before .before .before .before .before .before .before .before .pre .1 .0) (c .before .before .before .before .before .before .before .before .pre .1 .1) (λ e. c .before .before .before .if1 .left (c .before .before .before .before .word .ensures .0 ∙ e)) (c .before .before .before .before .before .before .before .before .pre .2) j p (omega arith)
+    let a = c .before .before .before .before .before .before .before .args in
+    let g = c .before .before .before .before .before .before .before .pre in
+    flat-plains (now (a .text)) (now (a .table)) (a .i) (g .1 .0) (g .1 .1) (g .3) (g .2) j p (omega arith)
 
-same-length-2 : tie.Need-same-length-2
-same-length-2 c = search needs
+same-length : tie.Need-same-length
+same-length c = search needs
 
-returns-2 : tie.Need-returns-2
-returns-2 c o n v h =
-    let a = c .before .before .before .before .before .before .before .before .before .before .before .args in
+returns : tie.Need-returns
+returns c o n v h =
+    let a = c .before .before .before .before .before .before .before .before .before .before .args in
+    let g = c .before .before .before .before .before .before .before .before .before .before .pre in
     wrote-as
-    (ap (λ (x : ℕ). (91 ∷ []) ++ plainLine (now (a .text)) (now (a .table)) (a .i + 1) (a .i + x - (a .i + 1)) ++ (93 ∷ [])) (c .before .before .before .before .before .before .before .word .ensures .0)
-    ∙ flat-list (now (a .text)) (now (a .table)) (a .i) o n v h (λ e. c .before .before .before .before .before .before .if1 .left (c .before .before .before .before .before .before .before .word .ensures .0 ∙ e)) (c .before .before .before .before .before .before .before .before .before .before .before .pre .2) (sym (c .before .before .before .before .before .word2 .ensures .0) ∙ c .before .before .before .before .if2 .taken))
+    (ap (λ (x : ℕ). (91 ∷ []) ++ plainLine (now (a .text)) (now (a .table)) (a .i + 1) (a .i + x - (a .i + 1)) ++ (93 ∷ [])) (c .before .before .before .before .before .before .word .ensures .0)
+    ∙ flat-list (now (a .text)) (now (a .table)) (a .i) o n v h (g .3) (g .2) (sym (c .before .before .before .before .before .word2 .ensures .0) ∙ c .before .before .before .before .if1 .taken))
     (c .before .before .put-row .ensures)
 
 put-text-requires : tie.Need-put-text-requires
 put-text-requires c κs =
-    let a = c .before .before .before .before .before .before .before .before .args in
-    let l : word (now (a .table)) (a .i) 4 ≡ 1 → ⊥ = λ e. c .before .before .before .if1 .left (c .before .before .before .before .word .ensures .0 ∙ e) in
-    value-plain (now (a .text)) (now (a .table)) (a .i) (c .before .before .before .before .before .before .before .before .pre .1 .0) (c .before .before .before .before .before .before .before .before .pre .1 .1) (λ e. c .before .if2 .left (c .before .before .word2 .ensures .0 ∙ e)) (flat-not-map (now (a .text)) (now (a .table)) (a .i) (c .before .before .before .before .before .before .before .before .pre .1 .0) (c .before .before .before .before .before .before .before .before .pre .1 .1) l (c .before .before .before .before .before .before .before .before .pre .2))
+    let a = c .before .before .before .before .before .before .before .args in
+    let g = c .before .before .before .before .before .before .before .pre in
+    value-plain (now (a .text)) (now (a .table)) (a .i) (g .1 .0) (g .1 .1) (λ e. c .before .if1 .left (c .before .before .word2 .ensures .0 ∙ e)) (flat-not-map (now (a .text)) (now (a .table)) (a .i) (g .1 .0) (g .1 .1) (g .3) (g .2))
 
 add-put-row-3 : tie.Need-add-put-row-3
 add-put-row-3 c = search needs
@@ -65,18 +56,20 @@ add-put-row-4 c = search needs
 
 put-row-requires-2 : tie.Need-put-row-requires-2
 put-row-requires-2 c κs j p q =
-    let a = c .before .before .before .before .before .before .before .before .before .before .before .before .args in
-    flat-plains (now (a .text)) (now (a .table)) (a .i) (c .before .before .before .before .before .before .before .before .before .before .before .before .pre .1 .0) (c .before .before .before .before .before .before .before .before .before .before .before .before .pre .1 .1) (λ e. c .before .before .before .before .before .before .before .if1 .left (c .before .before .before .before .before .before .before .before .word .ensures .0 ∙ e)) (c .before .before .before .before .before .before .before .before .before .before .before .before .pre .2) j p (omega arith)
+    let a = c .before .before .before .before .before .before .before .before .before .before .before .args in
+    let g = c .before .before .before .before .before .before .before .before .before .before .before .pre in
+    flat-plains (now (a .text)) (now (a .table)) (a .i) (g .1 .0) (g .1 .1) (g .3) (g .2) j p (omega arith)
 
-same-length-3 : tie.Need-same-length-3
-same-length-3 c = search needs
+same-length-2 : tie.Need-same-length-2
+same-length-2 c = search needs
 
-returns-3 : tie.Need-returns-3
-returns-3 c o n v h =
-    let a = c .before .before .before .before .before .before .before .before .before .before .before .before .before .before .before .args in
+returns-2 : tie.Need-returns-2
+returns-2 c o n v h =
+    let a = c .before .before .before .before .before .before .before .before .before .before .before .before .before .before .args in
+    let g = c .before .before .before .before .before .before .before .before .before .before .before .before .before .before .pre in
     wrote-as
-    (ap (λ (x : ℕ). textAt (now (a .text)) (now (a .table)) (a .i) ++ ((40 ∷ []) ++ plainLine (now (a .text)) (now (a .table)) (a .i + 1) (a .i + x - (a .i + 1)) ++ (41 ∷ []))) (c .before .before .before .before .before .before .before .before .before .before .before .word .ensures .0)
-    ∙ flat-variant (now (a .text)) (now (a .table)) (a .i) o n v h (λ e. c .before .before .before .before .before .before .before .before .before .before .if1 .left (c .before .before .before .before .before .before .before .before .before .before .before .word .ensures .0 ∙ e)) (c .before .before .before .before .before .before .before .before .before .before .before .before .before .before .before .pre .2) (λ e. c .before .before .before .before .before .before .before .before .if2 .left (c .before .before .before .before .before .before .before .before .before .word2 .ensures .0 ∙ e)))
+    (ap (λ (x : ℕ). textAt (now (a .text)) (now (a .table)) (a .i) ++ ((40 ∷ []) ++ plainLine (now (a .text)) (now (a .table)) (a .i + 1) (a .i + x - (a .i + 1)) ++ (41 ∷ []))) (c .before .before .before .before .before .before .before .before .before .before .word .ensures .0)
+    ∙ flat-variant (now (a .text)) (now (a .table)) (a .i) o n v h (g .3) (g .2) (λ e. c .before .before .before .before .before .before .before .before .if1 .left (c .before .before .before .before .before .before .before .before .before .word2 .ensures .0 ∙ e)))
     (wrote-then (c .before .before .before .before .before .before .put-text .ensures) (c .before .before .put-row2 .ensures))
 
 pub put-flat-spec : {M : Type 1} → statement M
@@ -84,18 +77,15 @@ put-flat-spec =
     tie.close
     (tie.spec
     word-requires
-    put-plain-requires
-    same-length
-    returns
     word-requires-2
     add-put-row
     add-put-row-2
     put-row-requires
-    same-length-2
-    returns-2
+    same-length
+    returns
     put-text-requires
     add-put-row-3
     add-put-row-4
     put-row-requires-2
-    same-length-3
-    returns-3)
+    same-length-2
+    returns-2)

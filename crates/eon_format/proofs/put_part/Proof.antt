@@ -1,91 +1,92 @@
-use mathlib.Core.Path.{_≡_, refl, sym, ap}
-use Prim.Native.Nat.{_≤_, _-_}
+use mathlib.Core.Path.{refl}
+use Prim.Native.Nat.{_-_}
+use lib.ListN.{length}
 use denote.Ref.{now}
 use native.Mathlib.Omega.{arith}
+use Rattle.eon_format.proofs.Writing.{wrote-past, measured, copied}
 use borrow.Author.Needs.{needs}
-use Rattle.eon_format.specs.Put.{Wrote, part}
-use Rattle.eon_format.proofs.Writing.{wrote-none, wrote-then, wrote-as, wrote-length, measured, part-length, part-none, part-more}
 use Rattle.eon_format.proofs.put_part.Statement.{statement}
 use Rattle.eon_format.proofs.put_part.Tie as tie
 
-abbrev Inv-loop : tie.InvT-loop
-Inv-loop src from to out₀ live at at₀ i₀ out at' i = (from ≤ i) × (i ≤ to) × Wrote live out₀ at (part src from i) at' out
-
-abbrev μ-loop : tie.MeasureT-loop
-μ-loop src from to out₀ live at at₀ i₀ out at' i = to - i
-
-sub-n : tie.Need-sub-n Inv-loop μ-loop
-sub-n c = search needs
-
-add-result : tie.Need-add-result Inv-loop μ-loop
+add-result : tie.Need-add-result
 add-result c = search needs
 
-returns : tie.Need-returns Inv-loop μ-loop
-returns c = measured (c .before .before .before .before .args .to - c .before .before .before .before .args .from) (c .before .if1 .taken) (part-length (now (c .before .before .before .before .args .src)) (c .before .before .before .before .args .from) (c .before .before .before .before .args .to) (c .before .before .before .before .pre .1)) (λ h. omega arith) (λ h. omega arith)
+returns : tie.Need-returns
+returns c = wrote-past (c .if1 .taken) (omega arith)
 
-sub-if3 : tie.Need-sub-if3 Inv-loop μ-loop
-sub-if3 c = search needs
+sub-n : tie.Need-sub-n
+sub-n c = search needs
 
-add-result-2 : tie.Need-add-result-2 Inv-loop μ-loop
+sub-room : tie.Need-sub-room
+sub-room c = search needs
+
+copy-requires : tie.Need-copy-requires
+copy-requires c κs = search needs
+
+add-result-2 : tie.Need-add-result-2
 add-result-2 c = search needs
 
-returns-2 : tie.Need-returns-2 Inv-loop μ-loop
-returns-2 c = measured (c .before .before .before .before .before .args .to - c .before .before .before .before .before .args .from) (c .before .before .if1 .taken) (part-length (now (c .before .before .before .before .before .args .src)) (c .before .before .before .before .before .args .from) (c .before .before .before .before .before .args .to) (c .before .before .before .before .before .pre .1)) (λ h. omega arith) (λ h. omega arith)
+same-length : tie.Need-same-length
+same-length c = search needs
 
-add-result-3 : tie.Need-add-result-3 Inv-loop μ-loop
+returns-2 : tie.Need-returns-2
+returns-2 c =
+    let if3 = c .before .before .before .before .if3 in
+    let a = c .before .before .before .before .before .before .before .before .before .args in
+    let g = c .before .before .before .before .before .before .before .before .before .pre in
+    copied (a .to - a .from) (now (a .src)) (a .from) (a .to) (if3 .taken) (g .1) (omega arith) (λ h. omega arith) (c .before .before .copy .ensures) (λ h. refl) (λ h. omega arith)
+
+add-result-3 : tie.Need-add-result-3
 add-result-3 c = search needs
 
-returns-3 : tie.Need-returns-3 Inv-loop μ-loop
-returns-3 c = measured (c .before .before .before .before .before .args .to - c .before .before .before .before .before .args .from) (c .before .before .if1 .taken) (part-length (now (c .before .before .before .before .before .args .src)) (c .before .before .before .before .before .args .from) (c .before .before .before .before .before .args .to) (c .before .before .before .before .before .pre .1)) (λ h. refl) (λ h. omega arith)
+returns-3 : tie.Need-returns-3
+returns-3 c =
+    let a = c .before .before .before .before .before .args in
+    let g = c .before .before .before .before .before .pre in
+    measured (now (a .src)) (a .from) (a .to) (c .if3 .left) (g .1) (λ h. refl) (λ h. omega arith)
 
-loop-holds : tie.Need-loop-holds Inv-loop μ-loop
-loop-holds c = (omega arith, omega arith, wrote-as (sym (part-none (now (c .before .before .before .args .src)) (c .before .before .before .args .from))) wrote-none)
+copy-requires-2 : tie.Need-copy-requires-2
+copy-requires-2 c κs = search needs
 
-shared-slice-read-put : tie.Need-shared-slice-read-put Inv-loop μ-loop
-shared-slice-read-put c = omega arith
+add-result-4 : tie.Need-add-result-4
+add-result-4 c = search needs
 
-put-requires : tie.Need-put-requires Inv-loop μ-loop
-put-requires c κs = search needs
+same-length-2 : tie.Need-same-length-2
+same-length-2 c = search needs
 
-add-i : tie.Need-add-i Inv-loop μ-loop
-add-i c = omega arith
-
-loop-less : tie.Need-loop-less Inv-loop μ-loop
-loop-less c = omega arith
-
-loop-again : tie.Need-loop-again Inv-loop μ-loop
-loop-again c =
-    let s = now (c .before .before .before .before .before .before .before .before .before .before .args .src) in
-    let i = c .before .before .before .before .before .before .loop .i in
-    (omega arith, omega arith, wrote-as (sym (part-more s (c .before .before .before .before .before .before .before .before .before .before .args .from) i (omega arith) (omega arith))) (wrote-then (c .before .before .before .before .before .before .loop .inv .2) (c .before .before .put .ensures)))
-
-same-length : tie.Need-same-length Inv-loop μ-loop
-same-length c = wrote-length (c .before .loop .inv .2)
-
-returns-4 : tie.Need-returns-4 Inv-loop μ-loop
+returns-4 : tie.Need-returns-4
 returns-4 c =
-    let e : c .before .loop .i ≡ c .before .before .before .before .before .args .to = omega arith in
-    wrote-as (ap (part (now (c .before .before .before .before .before .args .src)) (c .before .before .before .before .before .args .from)) e) (c .before .loop .inv .2)
+    let if4 = c .before .before .before .before .if4 in
+    let a = c .before .before .before .before .before .before .before .before .before .args in
+    let g = c .before .before .before .before .before .before .before .before .before .pre in
+    copied (length (now (a .out)) - a .at) (now (a .src)) (a .from) (a .to) (if4 .taken) (g .1) (omega arith) (λ h. omega arith) (c .before .before .copy2 .ensures) (λ h. omega arith) (λ h. omega arith)
+
+add-result-5 : tie.Need-add-result-5
+add-result-5 c = search needs
+
+returns-5 : tie.Need-returns-5
+returns-5 c =
+    let a = c .before .before .before .before .before .args in
+    let g = c .before .before .before .before .before .pre in
+    measured (now (a .src)) (a .from) (a .to) (c .if4 .left) (g .1) (λ h. omega arith) (λ h. omega arith)
 
 pub put-part-spec : {M : Type 1} → statement M
 put-part-spec =
     tie.close
     (tie.spec
-    Inv-loop
-    μ-loop
-    sub-n
     add-result
     returns
-    sub-if3
+    sub-n
+    sub-room
+    copy-requires
     add-result-2
+    same-length
     returns-2
     add-result-3
     returns-3
-    loop-holds
-    shared-slice-read-put
-    put-requires
-    add-i
-    loop-less
-    loop-again
-    same-length
-    returns-4)
+    copy-requires-2
+    add-result-4
+    same-length-2
+    returns-4
+    add-result-5
+    returns-5)

@@ -16,7 +16,10 @@ same-length : tie.Need-same-length
 same-length c = search needs
 
 returns : tie.Need-returns
-returns c = wrote-then (wrote-then (c .before .before .before .before .before .before .before .before .before .before .put .ensures) (c .before .before .before .before .before .before .one-line .ensures)) (c .before .before .put2 .ensures)
+returns c =
+    let put = c .before .before .before .before .before .before .before .before .before .before .put in
+    let one-line = c .before .before .before .before .before .before .one-line in
+    wrote-then (wrote-then (put .ensures) (one-line .ensures)) (c .before .before .put2 .ensures)
 
 pub put-row-spec : {M : Type 1} → statement M
 put-row-spec =

@@ -33,46 +33,57 @@ word-requires c κs = search needs
 
 indented-comments-requires : tie.Need-indented-comments-requires
 indented-comments-requires c κs =
+    let pre = c .before .before .before .before .before .before .before .before .pre in
+    let after-prefix = c .before .before .before .after-prefix in
     let a = c .before .before .before .before .before .before .before .before .args in
     let s = now (a .text) in
     let tb = now (a .table) in
-    let T = c .before .before .before .before .before .before .before .before .pre .1 .0 in
-    let H = c .before .before .before .before .before .before .before .before .pre .1 .1 in
-    (c .before .before .before .before .before .before .before .before .pre .0, tree-texts s tb (a .end) 0 (c .before .before .before .after-prefix .result) T H (c .before .before .before .after-prefix .ensures))
+    let T = pre .1 .0 in
+    let H = pre .1 .1 in
+    (pre .0, tree-texts s tb (a .end) 0 (after-prefix .result) T H (after-prefix .ensures))
 
 map-content-requires : tie.Need-map-content-requires
 map-content-requires c κs =
+    let pre = c .before .before .before .before .before .before .before .before .before .before .before .before .pre in
+    let after-prefix = c .before .before .before .before .before .before .before .after-prefix in
+    let its-word = c .before .before .before .before .before .before .word in
+    let if2 = c .before .before .before .before .before .if2 in
     let a = c .before .before .before .before .before .before .before .before .before .before .before .before .args in
     let s = now (a .text) in
     let tb = now (a .table) in
-    let T = c .before .before .before .before .before .before .before .before .before .before .before .before .pre .1 .0 in
-    let H = c .before .before .before .before .before .before .before .before .before .before .before .before .pre .1 .1 in
-    let j = c .before .before .before .before .before .before .before .after-prefix .result in
-    (c .before .before .before .before .before .before .before .before .before .before .before .before .pre .0, omega arith, value-map s tb j (valueOf T) (tree-value s tb (a .end) 0 j T H (c .before .before .before .before .before .before .before .after-prefix .ensures)) (sym (c .before .before .before .before .before .before .word .ensures .0) ∙ c .before .before .before .before .before .if2 .taken))
+    let T = pre .1 .0 in
+    let H = pre .1 .1 in
+    let j = after-prefix .result in
+    (pre .0, omega arith, value-map s tb j (valueOf T) (tree-value s tb (a .end) 0 j T H (after-prefix .ensures)) (sym (its-word .ensures .0) ∙ if2 .taken))
 
 word-requires-2 : tie.Need-word-requires-2
 word-requires-2 c κs = search needs
 
 add-k : tie.Need-add-k
 add-k c =
+    let good = c .before .before .before .before .before .before .before .before .before .before .before .before .before .before .before .before .good in
+    let pre = c .before .before .before .before .before .before .before .before .before .before .before .before .before .before .before .before .pre in
+    let after-prefix = c .before .before .before .before .before .before .before .before .before .before .before .after-prefix in
     let a = c .before .before .before .before .before .before .before .before .before .before .before .before .before .before .before .before .args in
     let s = now (a .text) in
     let tb = now (a .table) in
-    let T = c .before .before .before .before .before .before .before .before .before .before .before .before .before .before .before .before .pre .1 .0 in
-    let H = c .before .before .before .before .before .before .before .before .before .before .before .before .before .before .before .before .pre .1 .1 in
-    let j = c .before .before .before .before .before .before .before .before .before .before .before .after-prefix .result in
-    let l : j < length tb = value-in s tb j (valueOf T) (tree-value s tb (a .end) 0 j T H (c .before .before .before .before .before .before .before .before .before .before .before .after-prefix .ensures)) in
-    omega (arith, c .word2 .ensures, c .before .before .before .before .before .before .before .before .before .before .before .before .before .before .before .before .good .1 .0)
+    let T = pre .1 .0 in
+    let H = pre .1 .1 in
+    let j = after-prefix .result in
+    let l : j < length tb = value-in s tb j (valueOf T) (tree-value s tb (a .end) 0 j T H (after-prefix .ensures)) in
+    omega (arith, c .word2 .ensures, good .1 .0)
 
 suffix-comment-requires : tie.Need-suffix-comment-requires
 suffix-comment-requires c κs =
+    let pre = c .before .before .before .before .before .before .before .before .before .before .before .before .before .before .before .before .before .pre in
+    let after-prefix = c .before .before .before .before .before .before .before .before .before .before .before .before .after-prefix in
     let a = c .before .before .before .before .before .before .before .before .before .before .before .before .before .before .before .before .before .args in
     let s = now (a .text) in
     let tb = now (a .table) in
-    let T = c .before .before .before .before .before .before .before .before .before .before .before .before .before .before .before .before .before .pre .1 .0 in
-    let H = c .before .before .before .before .before .before .before .before .before .before .before .before .before .before .before .before .before .pre .1 .1 in
-    let j = c .before .before .before .before .before .before .before .before .before .before .before .before .after-prefix .result in
-    (suffixOf T, subst (λ (x : ℕ). SuffixAt s tb (a .end) (j + x) (suffixOf T)) (sym (c .before .word2 .ensures .0)) (tree-suffix s tb (a .end) 0 j T H (c .before .before .before .before .before .before .before .before .before .before .before .before .after-prefix .ensures)))
+    let T = pre .1 .0 in
+    let H = pre .1 .1 in
+    let j = after-prefix .result in
+    (suffixOf T, subst (λ (x : ℕ). SuffixAt s tb (a .end) (j + x) (suffixOf T)) (sym (c .before .word2 .ensures .0)) (tree-suffix s tb (a .end) 0 j T H (after-prefix .ensures)))
 
 same-length-2 : tie.Need-same-length-2
 same-length-2 c = search needs

@@ -19,9 +19,10 @@ returns c s vs cl h =
 
 next-tree-requires : tie.Need-next-tree-requires
 next-tree-requires c κs =
+    let pre = c .before .before .before .pre in
     let a = c .before .before .before .args in
-    let q = c .before .before .before .pre .2 in
-    (q .0, inside-some (q .0) (now (a .table)) (a .end) (a .i) (q .1 .0) (q .1 .1) (q .1 .2) (c .before .before .before .pre .1) (λ e. c .if1 .left (c .before .word .ensures .0 ∙ e)))
+    let q = pre .2 in
+    (q .0, inside-some (q .0) (now (a .table)) (a .end) (a .i) (q .1 .0) (q .1 .1) (q .1 .2) (pre .1) (λ e. c .if1 .left (c .before .word .ensures .0 ∙ e)))
 
 after-prefix-requires : tie.Need-after-prefix-requires
 after-prefix-requires c κs = search needs

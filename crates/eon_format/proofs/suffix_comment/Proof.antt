@@ -14,8 +14,11 @@ put-requires c κs = search needs
 
 put-text-requires : tie.Need-put-text-requires
 put-text-requires c κs =
+    let pre = c .before .before .before .before .before .before .before .before .before .before .pre in
+    let has-suffix = c .before .before .before .before .before .before .has-suffix in
+    let if1 = c .before .before .before .before .before .if1 in
     let a = c .before .before .before .before .before .before .before .before .before .before .args in
-    suffix-within (now (a .text)) (now (a .table)) (a .end) (a .i) (c .before .before .before .before .before .before .before .before .before .before .pre .0) (c .before .before .before .before .before .before .before .before .before .before .pre .1) (sym (c .before .before .before .before .before .before .has-suffix .ensures) ∙ c .before .before .before .before .before .if1 .taken)
+    suffix-within (now (a .text)) (now (a .table)) (a .end) (a .i) (pre .0) (pre .1) (sym (has-suffix .ensures) ∙ if1 .taken)
 
 same-length : tie.Need-same-length
 same-length c = search needs

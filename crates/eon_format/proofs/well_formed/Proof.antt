@@ -10,7 +10,9 @@ use Rattle.eon_format.proofs.well_formed.Statement.{statement}
 use Rattle.eon_format.proofs.well_formed.Tie as tie
 
 slice-aggregate-well-formed-len : tie.Need-slice-aggregate-well-formed-len
-slice-aggregate-well-formed-len c = sym (length-take-le (c .before .before .args .len) (c .before .before .args .bytes .now) (c .before .before .pre))
+slice-aggregate-well-formed-len c =
+    let args = c .before .before .args in
+    sym (length-take-le (args .len) (args .bytes .now) (c .before .before .pre))
 
 well-formed-len-requires : tie.Need-well-formed-len-requires
 well-formed-len-requires c κs = search needs
@@ -18,8 +20,9 @@ well-formed-len-requires c κs = search needs
 returns : tie.Need-returns
 unfolding isUtf8
 returns c =
-    ap (λ (n : ℕ). eqb n (c .before .before .before .args .len)) (c .well-formed-len .ensures)
-    ∙ ap (eqb (wellFormedLen (take (c .before .before .before .args .len) (now (c .before .before .before .args .bytes))))) (sym (length-take-le (c .before .before .before .args .len) (now (c .before .before .before .args .bytes)) (c .before .before .before .pre)))
+    let args = c .before .before .before .args in
+    ap (λ (n : ℕ). eqb n (args .len)) (c .well-formed-len .ensures)
+    ∙ ap (eqb (wellFormedLen (take (args .len) (now (args .bytes))))) (sym (length-take-le (args .len) (now (args .bytes)) (c .before .before .before .pre)))
 
 pub well-formed-spec : {M : Type 1} → statement M
 well-formed-spec =

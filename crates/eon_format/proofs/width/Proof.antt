@@ -20,13 +20,21 @@ add-result : tie.Need-add-result
 add-result c = search needs
 
 returns : tie.Need-returns
-returns c = (rw (eq-eqb (word (now (c .before .before .before .before .before .before .args .table)) (c .before .before .before .before .before .before .args .i) 0) 3 (sym (c .before .before .before .before .word .ensures .0) ∙ c .before .before .before .if1 .taken)) (omega arith), omega arith)
+returns c =
+    let args = c .before .before .before .before .before .before .args in
+    let its-word = c .before .before .before .before .word in
+    (rw (eq-eqb (word (now (args .table)) (args .i) 0) 3 (sym (its-word .ensures .0) ∙ c .before .before .before .if1 .taken)) (omega arith), omega arith)
 
 returns-2 : tie.Need-returns-2
-returns-2 c = (rw (eq-eqb (word (now (c .before .before .before .before .before .before .args .table)) (c .before .before .before .before .before .before .args .i) 0) 3 (sym (c .before .before .before .before .word .ensures .0) ∙ c .before .before .before .if1 .taken)) (omega arith), omega arith)
+returns-2 c =
+    let args = c .before .before .before .before .before .before .args in
+    let its-word = c .before .before .before .before .word in
+    (rw (eq-eqb (word (now (args .table)) (args .i) 0) 3 (sym (its-word .ensures .0) ∙ c .before .before .before .if1 .taken)) (omega arith), omega arith)
 
 returns-3 : tie.Need-returns-3
-returns-3 c = (rw (ne-eqb (word (now (c .before .before .before .args .table)) (c .before .before .before .args .i) 0) 3 (λ e. c .if1 .left (c .before .word .ensures .0 ∙ e))), omega arith)
+returns-3 c =
+    let args = c .before .before .before .args in
+    (rw (ne-eqb (word (now (args .table)) (args .i) 0) 3 (λ e. c .if1 .left (c .before .word .ensures .0 ∙ e))), omega arith)
 
 pub width-spec : {M : Type 1} → statement M
 width-spec =

@@ -1,7 +1,7 @@
 use Rattle.eon_format.specs.Tabled.{SomeTree, ValueAt, PairedAt, word, SuffixAt, TreeAt, InsideAt, sizeTree, sizeValue}
 use Rattle.eon_spec.specs.Tree.{noTrees, TokenTree, noPairs, Slice, TokenTrees, KeyValues, listOf, mapOf, variantOf}
-use Rattle.eon_format.proofs.Rows.{list-values, variant-inside}
-use Rattle.eon_format.proofs.Trees.{value-size, inside-closing, inside-end, tree-pos, value-pos}
+use Rattle.eon_format.proofs.Rows.{list-values, plain-law, variant-inside}
+use Rattle.eon_format.proofs.Trees.{value-plain, value-size, inside-closing, inside-end, tree-pos, value-pos}
 use Rattle.eon_format.specs.Long.{pairText, SomePair, PairAt}
 use Rattle.eon_format.proofs.Writing.{wrote-none, going-length, wrote-then, wrote-as}
 use Rattle.eon_format.proofs.Walk.{paired-all, paired-texts, valueOf, value-in, tree-texts, tree-value, tree-suffix, tree-lines, tree-gap, more-in, Through, through-start, through-tree, through-step, through-done, through-end, through-empty, finish, inside-texts, Paired, paired-start, paired-pair, paired-step, paired-done, list-content, list-body, map-content, map-body}
@@ -20,30 +20,33 @@ use Rattle.eon_format.proofs.Steps.{map-law, map-pairs, paired-closed, 
 use borrow.Author.Needs.{needs}
 use borrow.Fn.Kinds.{In}
 use borrow.Fn.PlainCycle.{Measures, is, falls, and}
+use Rattle.eon_format.proofs.container.Reads as container-own
+use Rattle.eon_format.proofs.container.Kinds as container-kinds
+use Rattle.eon_format.proofs.+container+indented_key_value+indented_value+list+map+map_content+shared+value+variant.Lts-container as container-lts
 use Rattle.eon_format.proofs.indented_key_value.Reads as indented-key-value-own
 use Rattle.eon_format.proofs.indented_key_value.Kinds as indented-key-value-kinds
-use Rattle.eon_format.proofs.+indented_key_value+indented_value+list+map+map_content+shared+value+variant.Lts-indented_key_value as indented-key-value-lts
+use Rattle.eon_format.proofs.+container+indented_key_value+indented_value+list+map+map_content+shared+value+variant.Lts-indented_key_value as indented-key-value-lts
 use Rattle.eon_format.proofs.indented_value.Reads as indented-value-own
 use Rattle.eon_format.proofs.indented_value.Kinds as indented-value-kinds
-use Rattle.eon_format.proofs.+indented_key_value+indented_value+list+map+map_content+shared+value+variant.Lts-indented_value as indented-value-lts
+use Rattle.eon_format.proofs.+container+indented_key_value+indented_value+list+map+map_content+shared+value+variant.Lts-indented_value as indented-value-lts
 use Rattle.eon_format.proofs.list.Reads as list-own
 use Rattle.eon_format.proofs.list.Kinds as list-kinds
-use Rattle.eon_format.proofs.+indented_key_value+indented_value+list+map+map_content+shared+value+variant.Lts-list as list-lts
+use Rattle.eon_format.proofs.+container+indented_key_value+indented_value+list+map+map_content+shared+value+variant.Lts-list as list-lts
 use Rattle.eon_format.proofs.map.Reads as map-own
 use Rattle.eon_format.proofs.map.Kinds as map-kinds
-use Rattle.eon_format.proofs.+indented_key_value+indented_value+list+map+map_content+shared+value+variant.Lts-map as map-lts
+use Rattle.eon_format.proofs.+container+indented_key_value+indented_value+list+map+map_content+shared+value+variant.Lts-map as map-lts
 use Rattle.eon_format.proofs.map_content.Reads as map-content-own
 use Rattle.eon_format.proofs.map_content.Kinds as map-content-kinds
-use Rattle.eon_format.proofs.+indented_key_value+indented_value+list+map+map_content+shared+value+variant.Lts-map_content as map-content-lts
+use Rattle.eon_format.proofs.+container+indented_key_value+indented_value+list+map+map_content+shared+value+variant.Lts-map_content as map-content-lts
 use Rattle.eon_format.proofs.shared.Reads as shared-own
 use Rattle.eon_format.proofs.shared.Kinds as shared-kinds
-use Rattle.eon_format.proofs.+indented_key_value+indented_value+list+map+map_content+shared+value+variant.Lts-shared as shared-lts
+use Rattle.eon_format.proofs.+container+indented_key_value+indented_value+list+map+map_content+shared+value+variant.Lts-shared as shared-lts
 use Rattle.eon_format.proofs.value.Reads as value-own
 use Rattle.eon_format.proofs.value.Kinds as value-kinds
-use Rattle.eon_format.proofs.+indented_key_value+indented_value+list+map+map_content+shared+value+variant.Lts-value as value-lts
+use Rattle.eon_format.proofs.+container+indented_key_value+indented_value+list+map+map_content+shared+value+variant.Lts-value as value-lts
 use Rattle.eon_format.proofs.variant.Reads as variant-own
 use Rattle.eon_format.proofs.variant.Kinds as variant-kinds
-use Rattle.eon_format.proofs.+indented_key_value+indented_value+list+map+map_content+shared+value+variant.Lts-variant as variant-lts
+use Rattle.eon_format.proofs.+container+indented_key_value+indented_value+list+map+map_content+shared+value+variant.Lts-variant as variant-lts
 use Rattle.eon_format.proofs.add_indent.Reads as add-indent-reads
 use Rattle.eon_format.proofs.after_prefix.Reads as after-prefix-reads
 use Rattle.eon_format.proofs.close_lines.Reads as close-lines-reads
@@ -60,37 +63,47 @@ use Rattle.eon_format.proofs.open_lines.Reads as open-lines-reads
 use Rattle.eon_format.proofs.put.Reads as put-reads
 use Rattle.eon_format.proofs.put_blank.Reads as put-blank-reads
 use Rattle.eon_format.proofs.put_flat.Reads as put-flat-reads
+use Rattle.eon_format.proofs.put_plain.Reads as put-plain-reads
 use Rattle.eon_format.proofs.put_text.Reads as put-text-reads
 use Rattle.eon_format.proofs.separator.Reads as separator-reads
 use Rattle.eon_format.proofs.sole.Reads as sole-reads
 use Rattle.eon_format.proofs.suffix_comment.Reads as suffix-comment-reads
 use Rattle.eon_format.proofs.word.Reads as word-reads
-use Rattle.eon_format.proofs.+indented_key_value+indented_value+list+map+map_content+shared+value+variant.{statement}
-use Rattle.eon_format.proofs.+indented_key_value+indented_value+list+map+map_content+shared+value+variant.Tie.{close}
+use Rattle.eon_format.proofs.+container+indented_key_value+indented_value+list+map+map_content+shared+value+variant.{statement}
+use Rattle.eon_format.proofs.+container+indented_key_value+indented_value+list+map+map_content+shared+value+variant.Tie.{close}
+
+abbrev μ-container : Measures 3 container-kinds.ps ℕ
+μ-container κs a = 5 * (length (a .1 .0 .now) - a .1 .1 .1 .0) + 2
 
 abbrev μ-indented-key-value : Measures 3 indented-key-value-kinds.ps ℕ
-μ-indented-key-value κs a = 4 * (length (a .1 .0 .now) - a .1 .1 .1 .0) + 3
+μ-indented-key-value κs a = 5 * (length (a .1 .0 .now) - a .1 .1 .1 .0) + 4
 
 abbrev μ-indented-value : Measures 3 indented-value-kinds.ps ℕ
-μ-indented-value κs a = 4 * (length (a .1 .0 .now) - a .1 .1 .1 .0) + 3
+μ-indented-value κs a = 5 * (length (a .1 .0 .now) - a .1 .1 .1 .0) + 4
 
 abbrev μ-list : Measures 3 list-kinds.ps ℕ
-μ-list κs a = 4 * (length (a .1 .0 .now) - a .1 .1 .1 .0) + 1
+μ-list κs a = 5 * (length (a .1 .0 .now) - a .1 .1 .1 .0) + 1
 
 abbrev μ-map : Measures 3 map-kinds.ps ℕ
-μ-map κs a = 4 * (length (a .1 .0 .now) - a .1 .1 .1 .0) + 1
+μ-map κs a = 5 * (length (a .1 .0 .now) - a .1 .1 .1 .0) + 1
 
 abbrev μ-map-content : Measures 3 map-content-kinds.ps ℕ
-μ-map-content κs a = 4 * (length (a .1 .0 .now) - a .1 .1 .1 .0) + 0
+μ-map-content κs a = 5 * (length (a .1 .0 .now) - a .1 .1 .1 .0) + 0
 
 abbrev μ-shared : Measures 3 shared-kinds.ps ℕ
-μ-shared κs a = 4 * (length (a .1 .0 .now) - a .1 .1 .1 .0) + 2
+μ-shared κs a = 5 * (length (a .1 .0 .now) - a .1 .1 .1 .0) + 2
 
 abbrev μ-value : Measures 3 value-kinds.ps ℕ
-μ-value κs a = 4 * (length (a .1 .0 .now) - a .1 .1 .1 .0) + 2
+μ-value κs a = 5 * (length (a .1 .0 .now) - a .1 .1 .1 .0) + 3
 
 abbrev μ-variant : Measures 3 variant-kinds.ps ℕ
-μ-variant κs a = 4 * (length (a .1 .0 .now) - a .1 .1 .1 .0) + 1
+μ-variant κs a = 5 * (length (a .1 .0 .now) - a .1 .1 .1 .0) + 1
+
+abbrev container-at : ℕ → In 3 container-kinds.ps
+container-at t = and 3 container-kinds.ps (is 3 container-kinds.ps μ-container t) container-own.Pre
+
+abbrev container-below : ℕ → In 3 container-kinds.ps
+container-below t = and 3 container-kinds.ps (falls 3 container-kinds.ps _<_ μ-container t) container-own.Pre
 
 abbrev indented-key-value-at : ℕ → In 3 indented-key-value-kinds.ps
 indented-key-value-at t =
@@ -161,6 +174,22 @@ variant-at t = and 3 variant-kinds.ps (is 3 variant-kinds.ps μ-variant t) varia
 
 abbrev variant-below : ℕ → In 3 variant-kinds.ps
 variant-below t = and 3 variant-kinds.ps (falls 3 variant-kinds.ps _<_ μ-variant t) variant-own.Pre
+
+abbrev container-calls : ℕ → container-lts.Claims
+container-calls t = (
+  is-flat-reads.Asked,
+  is-flat-reads.Learnt,
+  put-flat-reads.Asked,
+  put-flat-reads.Learnt,
+  word-reads.Asked,
+  word-reads.Learnt,
+  list-below t,
+  list-own.Post,
+  map-below t,
+  map-own.Post,
+  variant-below t,
+  variant-own.Post,
+)
 
 abbrev indented-key-value-calls : ℕ → indented-key-value-lts.Claims
 indented-key-value-calls t = (
@@ -260,18 +289,12 @@ shared-calls t = (
 
 abbrev value-calls : ℕ → value-lts.Claims
 value-calls t = (
-  is-flat-reads.Asked,
-  is-flat-reads.Learnt,
-  put-flat-reads.Asked,
-  put-flat-reads.Learnt,
   word-reads.Asked,
   word-reads.Learnt,
-  list-below t,
-  list-own.Post,
-  map-below t,
-  map-own.Post,
-  variant-below t,
-  variant-own.Post,
+  put-plain-reads.Asked,
+  put-plain-reads.Learnt,
+  container-below t,
+  container-own.Post,
 )
 
 abbrev variant-calls : ℕ → variant-lts.Claims
@@ -289,6 +312,107 @@ variant-calls t = (
   shared-below t,
   shared-own.Post,
 )
+
+container-is-flat-requires : (t : ℕ) → container-lts.Need-is-flat-requires (container-calls t) (container-at t) container-own.Post
+container-is-flat-requires t c κs =
+    let a = c .before .before .before .args in
+    let s = now (a .text) in
+    let tb = now (a .table) in
+    let i = a .i in
+    let v = c .before .before .before .pre .1 .2 .0 in
+    let h = c .before .before .before .pre .1 .2 .1 in
+    let e : word tb i 4 ≡ sizeValue v = value-size s tb i v h in
+    let p : 1 ≤ sizeValue v = value-pos v in
+    (value-in s tb i v h, omega arith, c .before .before .before .pre .1 .3)
+
+container-put-flat-requires : (t : ℕ) → container-lts.Need-put-flat-requires (container-calls t) (container-at t) container-own.Post
+container-put-flat-requires t c κs =
+    let a = c .before .before .before .before .before .before .args in
+    let s = now (a .text) in
+    let tb = now (a .table) in
+    let i = a .i in
+    let v = c .before .before .before .before .before .before .pre .1 .2 .0 in
+    let h = c .before .before .before .before .before .before .pre .1 .2 .1 in
+    (value-in s tb i v h, (v, h), sym (c .before .before .is-flat .ensures) ∙ c .before .if1 .taken, c .before .before .before .before .before .before .pre .1 .3)
+
+container-same-length : (t : ℕ) → container-lts.Need-same-length (container-calls t) (container-at t) container-own.Post
+container-same-length t c = c .before .before .put-flat .kept .1 .1 .1 .0
+
+container-returns : (t : ℕ) → container-lts.Need-returns (container-calls t) (container-at t) container-own.Post
+container-returns t c v h = c .before .before .put-flat .ensures (settingsOf (c .before .before .before .before .before .before .before .before .before .args .o)) (c .before .before .before .before .before .before .before .before .before .args .n) v h
+
+container-word-requires : (t : ℕ) → container-lts.Need-word-requires (container-calls t) (container-at t) container-own.Post
+container-word-requires t c κs = omega arith
+
+container-list-requires : (t : ℕ) → container-lts.Need-list-requires (container-calls t) (container-at t) container-own.Post
+container-list-requires t c κs =
+    let a = c .before .before .before .before .before .before .before .before .args in
+    let s = now (a .text) in
+    let tb = now (a .table) in
+    let i = a .i in
+    let v = c .before .before .before .before .before .before .before .before .pre .1 .2 .0 in
+    let h = c .before .before .before .before .before .before .before .before .pre .1 .2 .1 in
+    (omega (arith, c .before .before .before .before .before .before .before .before .pre .0), (c .before .before .before .before .before .before .before .before .pre .1 .0, c .before .before .before .before .before .before .before .before .pre .1 .1, value-list s tb i v h (sym (c .before .before .word .ensures .0) ∙ c .before .if2 .taken)))
+
+container-same-length-2 : (t : ℕ) → container-lts.Need-same-length-2 (container-calls t) (container-at t) container-own.Post
+container-same-length-2 t c = c .before .before .list .kept .1 .1 .1 .1 .1 .0
+
+container-returns-2 : (t : ℕ) → container-lts.Need-returns-2 (container-calls t) (container-at t) container-own.Post
+container-returns-2 t c v h =
+    let a = c .before .before .before .before .before .before .before .before .before .before .before .args in
+    let s = now (a .text) in
+    let tb = now (a .table) in
+    let i = a .i in
+    let o = settingsOf (a .o) in
+    let f : flatAt s tb i ≡ false = sym (c .before .before .before .before .before .before .before .is-flat .ensures) ∙ c .before .before .before .before .before .before .if1 .left in
+    list-value s tb i o (a .n) v h f (sym (c .before .before .before .before .before .word .ensures .0) ∙ c .before .before .before .before .if2 .taken) (c .before .before .list .ensures)
+
+container-map-requires : (t : ℕ) → container-lts.Need-map-requires (container-calls t) (container-at t) container-own.Post
+container-map-requires t c κs =
+    let a = c .before .before .before .before .before .before .before .before .before .args in
+    let s = now (a .text) in
+    let tb = now (a .table) in
+    let i = a .i in
+    let v = c .before .before .before .before .before .before .before .before .before .pre .1 .2 .0 in
+    let h = c .before .before .before .before .before .before .before .before .before .pre .1 .2 .1 in
+    (omega (arith, c .before .before .before .before .before .before .before .before .before .pre .0), (c .before .before .before .before .before .before .before .before .before .pre .1 .0, c .before .before .before .before .before .before .before .before .before .pre .1 .1, value-map s tb i v h (sym (c .before .before .before .word .ensures .0) ∙ c .before .if3 .taken)))
+
+container-same-length-3 : (t : ℕ) → container-lts.Need-same-length-3 (container-calls t) (container-at t) container-own.Post
+container-same-length-3 t c = c .before .before .map .kept .1 .1 .1 .1 .1 .0
+
+container-returns-3 : (t : ℕ) → container-lts.Need-returns-3 (container-calls t) (container-at t) container-own.Post
+container-returns-3 t c v h =
+    let a = c .before .before .before .before .before .before .before .before .before .before .before .before .args in
+    let s = now (a .text) in
+    let tb = now (a .table) in
+    let i = a .i in
+    let o = settingsOf (a .o) in
+    let f : flatAt s tb i ≡ false = sym (c .before .before .before .before .before .before .before .before .is-flat .ensures) ∙ c .before .before .before .before .before .before .before .if1 .left in
+    map-value s tb i o (a .n) v h f (sym (c .before .before .before .before .before .before .word .ensures .0) ∙ c .before .before .before .before .if3 .taken) (c .before .before .map .ensures)
+
+container-variant-requires : (t : ℕ) → container-lts.Need-variant-requires (container-calls t) (container-at t) container-own.Post
+container-variant-requires t c κs =
+    let a = c .before .before .before .before .before .before .before .before .before .args in
+    let s = now (a .text) in
+    let tb = now (a .table) in
+    let i = a .i in
+    let v = c .before .before .before .before .before .before .before .before .before .pre .1 .2 .0 in
+    let h = c .before .before .before .before .before .before .before .before .before .pre .1 .2 .1 in
+    let f : flatAt s tb i ≡ false = sym (c .before .before .before .before .before .is-flat .ensures) ∙ c .before .before .before .before .if1 .left in
+    (omega (arith, c .before .before .before .before .before .before .before .before .before .pre .0), (c .before .before .before .before .before .before .before .before .before .pre .1 .0, c .before .before .before .before .before .before .before .before .before .pre .1 .1, value-variant s tb i v h f (λ e. c .before .before .if2 .left (c .before .before .before .word .ensures .0 ∙ e)) (λ e. c .before .if3 .left (c .before .before .before .word .ensures .0 ∙ e)), f))
+
+container-same-length-4 : (t : ℕ) → container-lts.Need-same-length-4 (container-calls t) (container-at t) container-own.Post
+container-same-length-4 t c = c .before .before .variant .kept .1 .1 .1 .1 .1 .0
+
+container-returns-4 : (t : ℕ) → container-lts.Need-returns-4 (container-calls t) (container-at t) container-own.Post
+container-returns-4 t c v h =
+    let a = c .before .before .before .before .before .before .before .before .before .before .before .before .args in
+    let s = now (a .text) in
+    let tb = now (a .table) in
+    let i = a .i in
+    let o = settingsOf (a .o) in
+    let f : flatAt s tb i ≡ false = sym (c .before .before .before .before .before .before .before .before .is-flat .ensures) ∙ c .before .before .before .before .before .before .before .if1 .left in
+    variant-value s tb i o (a .n) v h f (λ e. c .before .before .before .before .before .if2 .left (c .before .before .before .before .before .before .word .ensures .0 ∙ e)) (λ e. c .before .before .before .before .if3 .left (c .before .before .before .before .before .before .word .ensures .0 ∙ e)) (c .before .before .variant .ensures)
 
 indented-key-value-after-prefix-requires :
     (t : ℕ) → indented-key-value-lts.Need-after-prefix-requires (indented-key-value-calls t) (indented-key-value-at t) indented-key-value-own.Post
@@ -803,106 +927,35 @@ shared-returns-3 t c v h d =
     let o = settingsOf (a .o) in
     map-shared s tb i o (a .n) v h d (λ e. c .before .before .before .before .before .before .if1 .left (c .before .before .before .before .before .before .before .word .ensures .0 ∙ e)) (λ e. c .before .before .before .before .if2 .left (c .before .before .before .before .before .word2 .ensures .0 ∙ e)) (c .before .before .map .ensures)
 
-value-is-flat-requires : (t : ℕ) → value-lts.Need-is-flat-requires (value-calls t) (value-at t) value-own.Post
-value-is-flat-requires t c κs =
-    let a = c .before .before .before .args in
-    let s = now (a .text) in
-    let tb = now (a .table) in
-    let i = a .i in
-    let v = c .before .before .before .pre .1 .2 .0 in
-    let h = c .before .before .before .pre .1 .2 .1 in
-    let e : word tb i 4 ≡ sizeValue v = value-size s tb i v h in
-    let p : 1 ≤ sizeValue v = value-pos v in
-    (value-in s tb i v h, omega arith)
-
-value-put-flat-requires : (t : ℕ) → value-lts.Need-put-flat-requires (value-calls t) (value-at t) value-own.Post
-value-put-flat-requires t c κs =
-    let a = c .before .before .before .before .before .before .args in
-    let s = now (a .text) in
-    let tb = now (a .table) in
-    let i = a .i in
-    let v = c .before .before .before .before .before .before .pre .1 .2 .0 in
-    let h = c .before .before .before .before .before .before .pre .1 .2 .1 in
-    (value-in s tb i v h, (v, h), sym (c .before .before .is-flat .ensures) ∙ c .before .if1 .taken)
-
-value-same-length : (t : ℕ) → value-lts.Need-same-length (value-calls t) (value-at t) value-own.Post
-value-same-length t c = c .before .before .put-flat .kept .1 .1 .1 .0
-
-value-returns : (t : ℕ) → value-lts.Need-returns (value-calls t) (value-at t) value-own.Post
-value-returns t c v h = c .before .before .put-flat .ensures (settingsOf (c .before .before .before .before .before .before .before .before .before .args .o)) (c .before .before .before .before .before .before .before .before .before .args .n) v h
-
 value-word-requires : (t : ℕ) → value-lts.Need-word-requires (value-calls t) (value-at t) value-own.Post
 value-word-requires t c κs = omega arith
 
-value-list-requires : (t : ℕ) → value-lts.Need-list-requires (value-calls t) (value-at t) value-own.Post
-value-list-requires t c κs =
-    let a = c .before .before .before .before .before .before .before .before .args in
+value-put-plain-requires : (t : ℕ) → value-lts.Need-put-plain-requires (value-calls t) (value-at t) value-own.Post
+value-put-plain-requires t c κs =
+    let a = c .before .before .before .before .before .before .args in
+    value-plain (now (a .text)) (now (a .table)) (a .i) (c .before .before .before .before .before .before .pre .1 .2 .0) (c .before .before .before .before .before .before .pre .1 .2 .1)
+
+value-same-length : (t : ℕ) → value-lts.Need-same-length (value-calls t) (value-at t) value-own.Post
+value-same-length t c = c .before .before .put-plain .kept .1 .1 .1 .0
+
+value-returns : (t : ℕ) → value-lts.Need-returns (value-calls t) (value-at t) value-own.Post
+value-returns t c v h =
+    let a = c .before .before .before .before .before .before .before .before .before .args in
     let s = now (a .text) in
     let tb = now (a .table) in
     let i = a .i in
-    let v = c .before .before .before .before .before .before .before .before .pre .1 .2 .0 in
-    let h = c .before .before .before .before .before .before .before .before .pre .1 .2 .1 in
-    (omega (arith, c .before .before .before .before .before .before .before .before .pre .0), (c .before .before .before .before .before .before .before .before .pre .1 .0, c .before .before .before .before .before .before .before .before .pre .1 .1, value-list s tb i v h (sym (c .before .before .word .ensures .0) ∙ c .before .if2 .taken)))
+    wrote-as (plain-law s tb (settingsOf (a .o)) (a .n) i v h (sym (value-size s tb i v h) ∙ sym (c .before .before .before .before .before .word .ensures .0) ∙ c .before .before .before .before .if1 .taken)) (c .before .before .put-plain .ensures)
+
+value-container-requires : (t : ℕ) → value-lts.Need-container-requires (value-calls t) (value-at t) value-own.Post
+value-container-requires t c κs =
+    let q = c .before .before .before .before .before .before .pre in
+    (omega (arith, q .0), (q .1 .0, q .1 .1, q .1 .2, λ e. c .before .if1 .left (c .before .before .word .ensures .0 ∙ e)))
 
 value-same-length-2 : (t : ℕ) → value-lts.Need-same-length-2 (value-calls t) (value-at t) value-own.Post
-value-same-length-2 t c = c .before .before .list .kept .1 .1 .1 .1 .1 .0
+value-same-length-2 t c = c .before .before .container .kept .1 .1 .1 .1 .1 .0
 
 value-returns-2 : (t : ℕ) → value-lts.Need-returns-2 (value-calls t) (value-at t) value-own.Post
-value-returns-2 t c v h =
-    let a = c .before .before .before .before .before .before .before .before .before .before .before .args in
-    let s = now (a .text) in
-    let tb = now (a .table) in
-    let i = a .i in
-    let o = settingsOf (a .o) in
-    let f : flatAt s tb i ≡ false = sym (c .before .before .before .before .before .before .before .is-flat .ensures) ∙ c .before .before .before .before .before .before .if1 .left in
-    list-value s tb i o (a .n) v h f (sym (c .before .before .before .before .before .word .ensures .0) ∙ c .before .before .before .before .if2 .taken) (c .before .before .list .ensures)
-
-value-map-requires : (t : ℕ) → value-lts.Need-map-requires (value-calls t) (value-at t) value-own.Post
-value-map-requires t c κs =
-    let a = c .before .before .before .before .before .before .before .before .before .args in
-    let s = now (a .text) in
-    let tb = now (a .table) in
-    let i = a .i in
-    let v = c .before .before .before .before .before .before .before .before .before .pre .1 .2 .0 in
-    let h = c .before .before .before .before .before .before .before .before .before .pre .1 .2 .1 in
-    (omega (arith, c .before .before .before .before .before .before .before .before .before .pre .0), (c .before .before .before .before .before .before .before .before .before .pre .1 .0, c .before .before .before .before .before .before .before .before .before .pre .1 .1, value-map s tb i v h (sym (c .before .before .before .word .ensures .0) ∙ c .before .if3 .taken)))
-
-value-same-length-3 : (t : ℕ) → value-lts.Need-same-length-3 (value-calls t) (value-at t) value-own.Post
-value-same-length-3 t c = c .before .before .map .kept .1 .1 .1 .1 .1 .0
-
-value-returns-3 : (t : ℕ) → value-lts.Need-returns-3 (value-calls t) (value-at t) value-own.Post
-value-returns-3 t c v h =
-    let a = c .before .before .before .before .before .before .before .before .before .before .before .before .args in
-    let s = now (a .text) in
-    let tb = now (a .table) in
-    let i = a .i in
-    let o = settingsOf (a .o) in
-    let f : flatAt s tb i ≡ false = sym (c .before .before .before .before .before .before .before .before .is-flat .ensures) ∙ c .before .before .before .before .before .before .before .if1 .left in
-    map-value s tb i o (a .n) v h f (sym (c .before .before .before .before .before .before .word .ensures .0) ∙ c .before .before .before .before .if3 .taken) (c .before .before .map .ensures)
-
-value-variant-requires : (t : ℕ) → value-lts.Need-variant-requires (value-calls t) (value-at t) value-own.Post
-value-variant-requires t c κs =
-    let a = c .before .before .before .before .before .before .before .before .before .args in
-    let s = now (a .text) in
-    let tb = now (a .table) in
-    let i = a .i in
-    let v = c .before .before .before .before .before .before .before .before .before .pre .1 .2 .0 in
-    let h = c .before .before .before .before .before .before .before .before .before .pre .1 .2 .1 in
-    let f : flatAt s tb i ≡ false = sym (c .before .before .before .before .before .is-flat .ensures) ∙ c .before .before .before .before .if1 .left in
-    (omega (arith, c .before .before .before .before .before .before .before .before .before .pre .0), (c .before .before .before .before .before .before .before .before .before .pre .1 .0, c .before .before .before .before .before .before .before .before .before .pre .1 .1, value-variant s tb i v h f (λ e. c .before .before .if2 .left (c .before .before .before .word .ensures .0 ∙ e)) (λ e. c .before .if3 .left (c .before .before .before .word .ensures .0 ∙ e)), f))
-
-value-same-length-4 : (t : ℕ) → value-lts.Need-same-length-4 (value-calls t) (value-at t) value-own.Post
-value-same-length-4 t c = c .before .before .variant .kept .1 .1 .1 .1 .1 .0
-
-value-returns-4 : (t : ℕ) → value-lts.Need-returns-4 (value-calls t) (value-at t) value-own.Post
-value-returns-4 t c v h =
-    let a = c .before .before .before .before .before .before .before .before .before .before .before .before .args in
-    let s = now (a .text) in
-    let tb = now (a .table) in
-    let i = a .i in
-    let o = settingsOf (a .o) in
-    let f : flatAt s tb i ≡ false = sym (c .before .before .before .before .before .before .before .before .is-flat .ensures) ∙ c .before .before .before .before .before .before .before .if1 .left in
-    variant-value s tb i o (a .n) v h f (λ e. c .before .before .before .before .before .if2 .left (c .before .before .before .before .before .before .word .ensures .0 ∙ e)) (λ e. c .before .before .before .before .if3 .left (c .before .before .before .before .before .before .word .ensures .0 ∙ e)) (c .before .before .variant .ensures)
+value-returns-2 t c v h = c .before .before .container .ensures v h
 
 variant-word-requires : (t : ℕ) → variant-lts.Need-word-requires (variant-calls t) (variant-at t) variant-own.Post
 variant-word-requires t c κs = omega arith
@@ -1039,10 +1092,11 @@ variant-returns-2 t c M vs cl h =
     shared-value s tb i o (a .n) M vs cl (g .val) h f (g .only) (g .shares o (a .n))
     (wrote-then (c .before .before .before .before .before .before .before .before .before .before .before .before .before .before .before .before .put-text .ensures) (wrote-then (wrote-then (c .before .before .before .before .before .before .before .before .before .before .put .ensures) (c .before .before .before .before .before .before .shared .ensures (g .val) (g .stands) (g .container))) (c .before .before .put2 .ensures)))
 
-pub +indented-key-value+indented-value+list+map+map-content+shared+value+variant-spec :
+pub +container+indented-key-value+indented-value+list+map+map-content+shared+value+variant-spec :
     {M : Type 1} → statement M
-+indented-key-value+indented-value+list+map+map-content+shared+value+variant-spec =
++container+indented-key-value+indented-value+list+map+map-content+shared+value+variant-spec =
     close
+    μ-container
     μ-indented-key-value
     μ-indented-value
     μ-list
@@ -1051,6 +1105,23 @@ pub +indented-key-value+indented-value+list+map+map-content+shared+value+variant
     μ-shared
     μ-value
     μ-variant
+    (λ t. container-lts.spec (container-calls t)
+    (container-at t)
+    container-own.Post
+    (container-is-flat-requires t)
+    (container-put-flat-requires t)
+    (container-same-length t)
+    (container-returns t)
+    (container-word-requires t)
+    (container-list-requires t)
+    (container-same-length-2 t)
+    (container-returns-2 t)
+    (container-map-requires t)
+    (container-same-length-3 t)
+    (container-returns-3 t)
+    (container-variant-requires t)
+    (container-same-length-4 t)
+    (container-returns-4 t))
     (λ t. indented-key-value-lts.spec (indented-key-value-calls t)
     (indented-key-value-at t)
     indented-key-value-own.Post
@@ -1146,20 +1217,13 @@ pub +indented-key-value+indented-value+list+map+map-content+shared+value+variant
     (λ t. value-lts.spec (value-calls t)
     (value-at t)
     value-own.Post
-    (value-is-flat-requires t)
-    (value-put-flat-requires t)
+    (value-word-requires t)
+    (value-put-plain-requires t)
     (value-same-length t)
     (value-returns t)
-    (value-word-requires t)
-    (value-list-requires t)
+    (value-container-requires t)
     (value-same-length-2 t)
-    (value-returns-2 t)
-    (value-map-requires t)
-    (value-same-length-3 t)
-    (value-returns-3 t)
-    (value-variant-requires t)
-    (value-same-length-4 t)
-    (value-returns-4 t))
+    (value-returns-2 t))
     λ t. variant-lts.spec (variant-calls t)
     (variant-at t)
     variant-own.Post
