@@ -86,7 +86,7 @@ then-fin tb (parsed t) = go (isFinished tb t)
     go false = refl
 
 module _ (s tb : List ℕ) (u8 : isUtf8 s ≡ true) (short : length s ≤ 65535) where
-  text-is : readText s ≡ parsedOutcome (parse s)
+  pub text-is : readText s ≡ parsedOutcome (parse s)
   unfolding readText checked
   text-is = rw (le-ltb 65535 (length s) short, checked, u8)
 
@@ -343,11 +343,11 @@ module _ (s tb : List ℕ) where
   unfolding readFinished
   refused-fin r e = sym (ap (λ (o : Outcome TokenTree). then (then o (finish tb)) countOf) e)
 
-  long-text : 65535 < length s → readText s ≡ refusedWith (refusal 1 (span 65535 65535))
+  pub long-text : 65535 < length s → readText s ≡ refusedWith (refusal 1 (span 65535 65535))
   unfolding readText checked
   long-text h = rw (lt-ltb 65535 (length s) h, checked)
 
-  bad-text : length s ≤ 65535 → (n : ℕ) → n ≡ wellFormedLen s → (n ≡ length s → ⊥) → readText s ≡ refusedWith (refusal 2 (span n n))
+  pub bad-text : length s ≤ 65535 → (n : ℕ) → n ≡ wellFormedLen s → (n ≡ length s → ⊥) → readText s ≡ refusedWith (refusal 2 (span n n))
   unfolding readText checked isUtf8
   bad-text h n e f =
       rw (le-ltb 65535 (length s) h, checked, ne-eqb (wellFormedLen s) (length s) (λ z. f (e ∙ z))) (ap (λ (m : ℕ). refusedWith (refusal 2 (span m m))) (sym e))

@@ -10,4 +10,5 @@ pub mod Same
 pub mod Whole
 pub mod Tops
 pub mod Calls
+pub mod OneWalk
 pub mod Ranges

@@ -10,9 +10,9 @@ ghost use Rattle.eon_spec.specs.Parse.{refusal};
 ghost use Rattle.eon_token.specs.Place.{span, placeOf, cursorAt, nextSpan};
 ghost use Rattle.eon_parse.specs.Walk.{closes, strings, numberOf, run, endOf, wrong, expect, suffixEnd, tailR, stops, one, two, textEnd, inside, bareAt, reader, below};
 ghost use Rattle.eon_parse.specs.Answer.{holds, agrees, stopOf, Ready, place, ran, bared, counted, moved, expected, entered, recordWords, comparedAt, settledAt, closedAt, ReadyBare, setCursor, tailed, noValue, passedHere, stored, FilledF, FilledB, FilledI, FilledC, settledF};
-ghost use Rattle.eon_parse.specs.Top.{topAt};
-ghost use Rattle.eon_parse.specs.Call.{FilledW, FilledO, countOf, placedAnswer};
-ghost use Rattle.eon_spec.specs.Calls.{after, outcomeOf, then, readCall, readFinished};
+ghost use Rattle.eon_parse.specs.Top.{topAt, listBy, severalBy, shapeWhole};
+ghost use Rattle.eon_parse.specs.Call.{FilledW, FilledO, wentTo, endedBy, Roomy, Written, countOf, placedAnswer};
+ghost use Rattle.eon_spec.specs.Calls.{after, outcomeOf, then, readText, readCall, readFinished};
 ghost use Rattle.eon_parse.specs.Tops.{furtherBy, strayOf, wholeSame, endMap, endSeveral, endSingle, severalTop, listTop, topView};
 
 pub mod token_tree;
@@ -990,9 +990,12 @@ fn scan(text: &[u8], table: &[u32], compare: bool) -> Top
 
 // ---- filling a whole text
 
-fn fill_top_map(text: &[u8], table: &mut [u32])
+// Each hands back its walk, so that one walk is enough where the table is the caller's own.
+
+fn fill_top_map(text: &[u8], table: &mut [u32]) -> Bare
     requires { ⌜ (isUtf8 (now text) ≡ true) × (length (now text) ≤ 65535) ⌝ }
-    ensures { λ _. ⌜ FilledW (length (now (text .entry))) 5 (now (table .entry)) (inside (now (text .entry)) (two (now (text .entry)) (below 128 (now (text .entry)))) (span 0 0)) (now (table .exit)) ⌝ }
+    ensures table { λ _. ⌜ FilledW (length (now (text .entry))) 5 (now (table .entry)) (inside (now (text .entry)) (two (now (text .entry)) (below 128 (now (text .entry)))) (span 0 0)) (now (table .exit)) ⌝ }
+    ensures walk { λ r. ⌜ r ≡ wentTo (now (text .entry)) 1 (inside (now (text .entry)) (two (now (text .entry)) (below 128 (now (text .entry)))) (span 0 0)) ⌝ }
 {
     let c = Cursor::new(text);
     let m = Walk {
@@ -1003,14 +1006,16 @@ fn fill_top_map(text: &[u8], table: &mut [u32])
     match fill_map(text, table, m, DEPTH) {
         Bare::Done(x) => {
             put_record(table, 0, 5, 0, text.len(), text.len(), x.count);
+            Bare::Done(x)
         }
-        Bare::Refused(a) => {}
+        Bare::Refused(a) => Bare::Refused(a),
     }
 }
 
-fn fill_top_list(text: &[u8], table: &mut [u32])
+fn fill_top_list(text: &[u8], table: &mut [u32]) -> Bare
     requires { ⌜ (isUtf8 (now text) ≡ true) × (length (now text) ≤ 65535) ⌝ }
-    ensures { λ _. ⌜ FilledW (length (now (text .entry))) 4 (now (table .entry)) (inside (now (text .entry)) (one (now (text .entry)) (below 128 (now (text .entry)))) (span 0 0)) (now (table .exit)) ⌝ }
+    ensures table { λ _. ⌜ FilledW (length (now (text .entry))) 4 (now (table .entry)) (inside (now (text .entry)) (one (now (text .entry)) (below 128 (now (text .entry)))) (span 0 0)) (now (table .exit)) ⌝ }
+    ensures walk { λ r. ⌜ r ≡ wentTo (now (text .entry)) 1 (inside (now (text .entry)) (one (now (text .entry)) (below 128 (now (text .entry)))) (span 0 0)) ⌝ }
 {
     let c = Cursor::new(text);
     let m = Walk {
@@ -1021,14 +1026,16 @@ fn fill_top_list(text: &[u8], table: &mut [u32])
     match fill_list(text, table, m, DEPTH) {
         Bare::Done(x) => {
             put_record(table, 0, 4, 0, text.len(), text.len(), x.count);
+            Bare::Done(x)
         }
-        Bare::Refused(a) => {}
+        Bare::Refused(a) => Bare::Refused(a),
     }
 }
 
-fn fill_top_value(text: &[u8], table: &mut [u32])
+fn fill_top_value(text: &[u8], table: &mut [u32]) -> Bare
     requires { ⌜ (isUtf8 (now text) ≡ true) × (length (now text) ≤ 65535) ⌝ }
-    ensures { λ _. ⌜ FilledO (now (table .entry)) (one (now (text .entry)) (below 128 (now (text .entry))) (span 0 0)) (now (table .exit)) ⌝ }
+    ensures table { λ _. ⌜ FilledO (now (table .entry)) (one (now (text .entry)) (below 128 (now (text .entry))) (span 0 0)) (now (table .exit)) ⌝ }
+    ensures walk { λ r. ⌜ r ≡ wentTo (now (text .entry)) 0 (one (now (text .entry)) (below 128 (now (text .entry))) (span 0 0)) ⌝ }
 {
     let c = Cursor::new(text);
     let w = Walk {
@@ -1038,10 +1045,59 @@ fn fill_top_value(text: &[u8], table: &mut [u32])
     };
     let e = fill_comments(text, table, w, 7);
     match fill_value(text, table, e, DEPTH - 1) {
-        Got::Value(x, from) => {
-            fill_settle(text, table, x, from);
+        Got::Value(x, from) => Bare::Done(fill_settle(text, table, x, from)),
+        Got::Stopped(b) => Bare::Refused(b),
+    }
+}
+
+// ---- a whole text in one walk, into a table with room for any text of its length
+
+// The number of records, if nothing follows.
+fn ended(x: Walk) -> Answer
+    ensures { λ r. ⌜ r ≡ endedBy (x .cursor .peeked) (x .count) ⌝ }
+{
+    let c = x.cursor;
+    let t = c.peek();
+    if t.kind == END {
+        return Answer::Done(x.count);
+    }
+    Answer::Refused(stray(t))
+}
+
+fn once_several(text: &[u8], table: &mut [u32], a: Stop) -> Answer
+    requires { ⌜ Roomy (now text) (now table) ⌝ }
+    ensures { λ r. ⌜ Written (shapeWhole (severalBy (now (text .entry)) (a .refusal) (a .consumed) (inside (now (text .entry)) (one (now (text .entry)) (below 128 (now (text .entry)))) (span 0 0)))) r (now (table .exit)) ⌝ }
+{
+    match fill_top_list(text, table) {
+        Bare::Refused(b) => Answer::Refused(further_of(a, b)),
+        Bare::Done(x) => ended(x),
+    }
+}
+
+fn once_listed(text: &[u8], table: &mut [u32], a: Stop) -> Answer
+    requires { ⌜ Roomy (now text) (now table) ⌝ }
+    ensures { λ r. ⌜ Written (shapeWhole (listBy (now (text .entry)) (a .refusal) (a .consumed) (one (now (text .entry)) (below 128 (now (text .entry))) (span 0 0)))) r (now (table .exit)) ⌝ }
+{
+    match fill_top_value(text, table) {
+        Bare::Refused(b) => Answer::Refused(further_of(a, b)),
+        Bare::Done(y) => {
+            if ends(text, y) {
+                let c = y.cursor;
+                let d = ahead(text, c);
+                return ended(y.at(d));
+            }
+            once_several(text, table, a)
         }
-        Got::Stopped(b) => {}
+    }
+}
+
+fn once(text: &[u8], table: &mut [u32]) -> Answer
+    requires { ⌜ Roomy (now text) (now table) ⌝ }
+    ensures { λ r. ⌜ Written (shapeWhole (topAt (now (text .entry)))) r (now (table .exit)) ⌝ }
+{
+    match fill_top_map(text, table) {
+        Bare::Done(x) => ended(x),
+        Bare::Refused(a) => once_listed(text, table, a),
     }
 }
 
@@ -1139,6 +1195,22 @@ pub fn finished(text: &[u8], table: &[u32]) -> Answer
     let n = well_formed_len(text);
     if n == text.len() {
         return finished_checked(text, table);
+    }
+    at_place(2, n)
+}
+
+// Reads a text into a table that has room for any text of its length, in one walk. A refusal leaves anything there.
+pub fn read_once(text: &[u8], table: &mut [u32]) -> Answer
+    requires { ⌜ (length (now text) ≤ 65535 → 5 * (length (now text) + 1) ≤ length (now table)) ⌝ }
+    ensures count { λ r. ⌜ outcomeOf r ≡ then (readText (now (text .entry))) countOf ⌝ }
+    ensures table { λ _. ⌜ readFinished (now (text .entry)) (now (table .exit)) ≡ readText (now (text .entry)) ⌝ }
+{
+    if text.len() > 65535 {
+        return at_place(1, 65535);
+    }
+    let n = well_formed_len(text);
+    if n == text.len() {
+        return once(text, table);
     }
     at_place(2, n)
 }

@@ -7,8 +7,8 @@ use native.Mathlib.Omega.{arith}
 use native.Mathlib.Nat.{zero-add}
 use native.Mathlib.Numerals.{add-one}
 use lib.ListN.{length, take, drop, getD, set, length-take}
-use lib.Seq.{paste-suc}
-use lib.Dec.{ltb, leb, le→leb}
+use lib.Seq.{paste-suc, length-take-le}
+use lib.Dec.{leb, le→leb}
 use Rattle.eon_spec.specs.declared.Refusal.{Refusal}
 use Rattle.eon_spec.specs.declared.Answer.{Answer}
 use Rattle.eon_spec.specs.declared.Answer.the-variants.{Done, Refused}
@@ -17,12 +17,11 @@ use Rattle.eon_spec.specs.Base.{eqList}
 use Rattle.eon_spec.specs.Tree.{TokenTree}
 use Rattle.eon_spec.specs.Records.{treeRecords, words}
 use Rattle.eon_spec.specs.Layout.{settingsOf, format}
-use Rattle.eon_spec.specs.Calls.{Outcome, done, refusedWith, then, nowhere, After, after, checked, written, fill, outcomeOf, readText, readCall, isFinished, readFinished, goodSettings, checkedSettings, formatCall, AfterBoth, afterBoth, fillBoth, reformatCall}
-use Rattle.eon_laws.proofs.Facts.{true-of, false-of, le-of, le-of-not, list-eq}
+use Rattle.eon_spec.specs.Calls.{Outcome, done, refusedWith, then, nowhere, After, after, written, fill, outcomeOf, readText, isFinished, readFinished, goodSettings, checkedSettings, formatCall, AfterBoth, afterBoth, fillBoth, reformatCall}
+use Rattle.eon_laws.proofs.Facts.{true-of, false-of, le-of, list-eq}
 use Rattle.eon_laws.proofs.Records.{words-length}
-use Rattle.eon_laws.proofs.Spans.{few-records}
-use Rattle.eon_round_trip.proofs.RoundTrip.{read-inv}
-use Rattle.eon_round_trip.proofs.Runs.{run-read, found-finished}
+use Rattle.eon_parse.specs.Call.{countOf}
+use Rattle.eon_parse.proofs.Calls.{long-text}
 use Rattle.eon_format.proofs.Joined.{formatted}
 
 -- a step of a copy from the front
@@ -45,49 +44,21 @@ known {m} f e = ap (λ (y : Answer). after (outcomeOf y) m) (sym f) ∙ e
 
 -- ---- reading into a table with room for any text
 
--- a text that is read is not too long
-short : (s : List ℕ) (t : TokenTree) → readText s ≡ done t → length s ≤ 65535
-unfolding readText checked
-short s t e = go (ltb 65535 (length s)) refl
-  where
-    go : (b : Bool) → ltb 65535 (length s) ≡ b → length s ≤ 65535
-    go true f = no-answer _ t (rw (f, checked) at e)
-    go false f = le-of-not 65535 (length s) f
-
-module _ (s work : List ℕ) (room : length s ≤ 65535 → 5 * (length s + 1) ≤ length work) where
-  filled : (t : TokenTree) → readText s ≡ done t → readCall s work ≡ after (done (length (treeRecords t))) (written (words (treeRecords t)) work)
-  filled t e =
-      let i = read-inv s t e in
-      run-read s t e work (omega (arith, room (short s t e), few-records s (i .0) t (i .1)))
-
-  not-filled : (r : Refusal) → readText s ≡ refusedWith r → readCall s work ≡ after (refusedWith r) work
-  unfolding readCall fill
-  not-filled r e = rw e
-
+module _ (s work : List ℕ) (a : Answer) (e : outcomeOf a ≡ then (readText s) countOf) where
   -- reading answers: its table is finished
-  pub read-done : (a : Answer) (n : ℕ) (work′ : List ℕ) → a ≡ Done n → after (outcomeOf a) work′ ≡ readCall s work → (t : TokenTree) × (readFinished s work′ ≡ done t) × (n ≡ length (treeRecords t))
-  read-done a n work′ k d = go (readText s) refl
+  pub read-done : (n : ℕ) → a ≡ Done n → readFinished s work ≡ readText s → (t : TokenTree) × (readFinished s work ≡ done t) × (n ≡ length (treeRecords t))
+  read-done n k h = go (readText s) h (ap outcomeOf (sym k) ∙ e)
     where
-      e : after (done n) work′ ≡ readCall s work
-      e = known k d
+      go : (x : Outcome TokenTree) → readFinished s work ≡ x → done n ≡ then x countOf → (t : TokenTree) × (readFinished s work ≡ done t) × (n ≡ length (treeRecords t))
+      go (refusedWith r) f g = no-answer r n (sym g)
+      go (done t) f g = (t, f, cc)
 
-      go : (x : Outcome TokenTree) → readText s ≡ x → (t : TokenTree) × (readFinished s work′ ≡ done t) × (n ≡ length (treeRecords t))
-      go (refusedWith r) f = no-answer r n (sym (same-answer (e ∙ not-filled r f)))
-      go (done t) f =
-          let g = e ∙ filled t f in
-          let h = same-answer g in
-          (t, rw (same-memory g) (found-finished s t f work), cc)
-
-  -- reading refuses: not for want of room
-  pub read-refused : (a : Answer) (r : Refusal) (work′ : List ℕ) → a ≡ Refused r → after (outcomeOf a) work′ ≡ readCall s work → readText s ≡ refusedWith r
-  read-refused a r work′ k d = go (readText s) refl
+  pub read-refused : (r : Refusal) → a ≡ Refused r → readText s ≡ refusedWith r
+  read-refused r k = go (readText s) (ap outcomeOf (sym k) ∙ e)
     where
-      e : after (refusedWith r) work′ ≡ readCall s work
-      e = known k d
-
-      go : (x : Outcome TokenTree) → readText s ≡ x → readText s ≡ refusedWith r
-      go (refusedWith q) f = let g = same-answer (e ∙ not-filled q f) in f ∙ ap refusedWith cc
-      go (done t) f = no-answer r (length (treeRecords t)) (same-answer (e ∙ filled t f))
+      go : (x : Outcome TokenTree) → refusedWith r ≡ then x countOf → x ≡ refusedWith r
+      go (refusedWith q) g = ap refusedWith cc
+      go (done t) g = no-answer r (length (treeRecords t)) g
 
 -- ---- refusals before layout
 
@@ -98,6 +69,17 @@ settings-first s table o out r e g = rw (g, checkedSettings, e)
 pub text-second : (s table : List ℕ) (o : FormatOptions) (out : List ℕ) (r : Refusal) → readText s ≡ refusedWith r → goodSettings o ≡ true → afterBoth (refusedWith r) table out ≡ reformatCall s table o out
 unfolding reformatCall checkedSettings fillBoth
 text-second s table o out r e g = rw (g, checkedSettings, e)
+
+-- an overlong text is refused as its beginning is
+pub overlong : (s table : List ℕ) (o : FormatOptions) (out : List ℕ) → 65536 < length s → reformatCall (take 65536 s) table o out ≡ reformatCall s table o out
+overlong s table o out h = go (goodSettings o) refl
+  where
+    long : 65535 < length (take 65536 s)
+    long = omega (arith, length-take-le 65536 s (omega arith))
+
+    go : (b : Bool) → goodSettings o ≡ b → reformatCall (take 65536 s) table o out ≡ reformatCall s table o out
+    go true g = sym (text-second (take 65536 s) table o out _ (long-text (take 65536 s) [] long) g) ∙ text-second s table o out _ (long-text s [] (omega arith)) g
+    go false g = sym (settings-first (take 65536 s) table o out _ refl g) ∙ settings-first s table o out _ refl g
 
 -- ---- layout by a finished table
 

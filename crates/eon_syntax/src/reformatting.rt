@@ -47,7 +47,7 @@ fn lay_out(
     }
 }
 
-// A text has at most one record more than bytes, so reading it into `work` never runs out of room.
+// A text has at most one record more than bytes, so `work` has room for it, and one walk reads it.
 fn reformat_in(
     text: &[u8],
     work: &mut [u32],
@@ -61,7 +61,7 @@ fn reformat_in(
     if !eon_format::good_settings(options) {
         return Answer::Refused(Refusal::new(16, 0));
     }
-    match eon_parse::read(text, work) {
+    match eon_parse::read_once(text, work) {
         Answer::Refused(r) => Answer::Refused(r),
         Answer::Done(n) => lay_out(text, work, n, table, options, out),
     }
@@ -84,9 +84,13 @@ fn in_medium(text: &[u8], table: &mut [u32], options: FormatOptions, out: &mut [
     reformat_in(text, &mut work, table, options, out)
 }
 
+// An overlong text is refused as its beginning is. A function that calls itself is not unfolded into its caller, so that short texts do not pay for this frame's stack.
 fn in_large(text: &[u8], table: &mut [u32], options: FormatOptions, out: &mut [u8]) -> Answer
     ensures { λ r. ⌜ afterBoth (outcomeOf r) (now (table .exit)) (now (out .exit)) ≡ reformatCall (now (text .entry)) (now (table .entry)) options (now (out .entry)) ⌝ }
 {
+    if 65536 < text.len() {
+        return in_large(&text[..65536], table, options, out);
+    }
     let mut work = [0u32; 327680];
     reformat_in(text, &mut work, table, options, out)
 }

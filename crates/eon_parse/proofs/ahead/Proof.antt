@@ -34,18 +34,24 @@ peek-requires c κs = search needs
 
 next-requires : tie.Need-next-requires Inv-loop μ-loop
 next-requires c κs =
-    let s = now (c .before .before .before .before .before .args .text) in
-    let d = c .before .before .before .loop .d in
-    let r : Ready s d 0 = c .before .before .before .loop .inv .1 .1 in
-    let k : c .before .before .peek .result .kind ≡ kindAt s (placeOf d) = ap (λ (u : PlacedToken). u .kind) (c .before .before .peek .ensures ∙ peeks s d 0 r) in
+    let args = c .before .before .before .before .before .args in
+    let loop = c .before .before .before .loop in
+    let peek = c .before .before .peek in
+    let s = now (args .text) in
+    let d = loop .d in
+    let r : Ready s d 0 = loop .inv .1 .1 in
+    let k : peek .result .kind ≡ kindAt s (placeOf d) = ap (λ (u : PlacedToken). u .kind) (peek .ensures ∙ peeks s d 0 r) in
     (standing r, omega (arith, k, c .if1 .left, peeks-kind s d 0 r))
 
 loop-less : tie.Need-loop-less Inv-loop μ-loop
 loop-less c =
-    let s = now (c .before .before .before .before .before .before .args .text) in
-    let d = c .before .before .before .before .loop .d in
-    let r : Ready s d 0 = c .before .before .before .before .loop .inv .1 .1 in
-    let k : c .before .before .before .peek .result .kind ≡ kindAt s (placeOf d) = ap (λ (u : PlacedToken). u .kind) (c .before .before .before .peek .ensures ∙ peeks s d 0 r) in
+    let args = c .before .before .before .before .before .before .args in
+    let loop = c .before .before .before .before .loop in
+    let peek = c .before .before .before .peek in
+    let s = now (args .text) in
+    let d = loop .d in
+    let r : Ready s d 0 = loop .inv .1 .1 in
+    let k : peek .result .kind ≡ kindAt s (placeOf d) = ap (λ (u : PlacedToken). u .kind) (peek .ensures ∙ peeks s d 0 r) in
     let e = is-comment s (placeOf d) (sym k ∙ c .before .if1 .left) in
     let g = comment-gets s (placeOf d) (r .bound) e in
     let z = ap (λ (y : Cursor). y .end) (c .next .ensures .0) in
@@ -54,16 +60,19 @@ loop-less c =
 loop-again : tie.Need-loop-again Inv-loop μ-loop
 unfolding comment
 loop-again c =
-    let s = now (c .before .before .before .before .before .before .args .text) in
-    let d = c .before .before .before .before .loop .d in
-    let r : Ready s d 0 = c .before .before .before .before .loop .inv .1 .1 in
-    let k : c .before .before .before .peek .result .kind ≡ kindAt s (placeOf d) = ap (λ (u : PlacedToken). u .kind) (c .before .before .before .peek .ensures ∙ peeks s d 0 r) in
+    let args = c .before .before .before .before .before .before .args in
+    let loop = c .before .before .before .before .loop in
+    let peek = c .before .before .before .peek in
+    let s = now (args .text) in
+    let d = loop .d in
+    let r : Ready s d 0 = loop .inv .1 .1 in
+    let k : peek .result .kind ≡ kindAt s (placeOf d) = ap (λ (u : PlacedToken). u .kind) (peek .ensures ∙ peeks s d 0 r) in
     let e = is-comment s (placeOf d) (sym k ∙ c .before .if1 .left) in
     let g = comment-gets s (placeOf d) (r .bound) e in
-    let l = left-turn s (noComment s) (comment s 7) (placeOf (c .before .before .before .before .before .before .args .c)) (placeOf d) (c .before .before .before .before .loop .inv .0) (c .before .before .before .before .loop .inv .1 .0) e refl (comment-far s 7 (placeOf d) (r .bound) e) in (
+    let l = left-turn s (noComment s) (comment s 7) (placeOf (args .c)) (placeOf d) (loop .inv .0) (loop .inv .1 .0) e refl (comment-far s 7 (placeOf d) (r .bound) e) in (
       _,
       (
-        subst (λ (y : Span). Left s (noComment s) (comment s 7) (placeOf (c .before .before .before .before .before .before .args .c)) y (c .before .before .before .before .loop .inv .0 ++ (leaf 7 (nextSpan s (placeOf d)) ∷ []))) (sym (ap placeOf (c .next .ensures .0))) l,
+        subst (λ (y : Span). Left s (noComment s) (comment s 7) (placeOf (args .c)) y (loop .inv .0 ++ (leaf 7 (nextSpan s (placeOf d)) ∷ []))) (sym (ap placeOf (c .next .ensures .0))) l,
         ready-at s d 0 0 (c .next .result) (nextSpan s (placeOf d)) r (c .next .ensures .0) (g .bound) (omega arith),
       ),
     )
@@ -71,12 +80,15 @@ loop-again c =
 returns : tie.Need-returns Inv-loop μ-loop
 unfolding run
 returns c =
-    let s = now (c .before .before .before .before .before .args .text) in
-    let d = c .before .before .before .loop .d in
-    let r : Ready s d 0 = c .before .before .before .loop .inv .1 .1 in
-    let k : c .before .before .peek .result .kind ≡ kindAt s (placeOf d) = ap (λ (u : PlacedToken). u .kind) (c .before .before .peek .ensures ∙ peeks s d 0 r) in
+    let args = c .before .before .before .before .before .args in
+    let loop = c .before .before .before .loop in
+    let peek = c .before .before .peek in
+    let s = now (args .text) in
+    let d = loop .d in
+    let r : Ready s d 0 = loop .inv .1 .1 in
+    let k : peek .result .kind ≡ kindAt s (placeOf d) = ap (λ (u : PlacedToken). u .kind) (peek .ensures ∙ peeks s d 0 r) in
     let e = is-none s (placeOf d) (λ z. c .if1 .taken (k ∙ z)) in
-    r .fresh ∙ ap (cursorAt s) (sym (ap endOf (left-end s (noComment s) (comment s 7) (placeOf (c .before .before .before .before .before .args .c)) (placeOf d) (c .before .before .before .loop .inv .0) (c .before .before .before .loop .inv .1 .0) e)))
+    r .fresh ∙ ap (cursorAt s) (sym (ap endOf (left-end s (noComment s) (comment s 7) (placeOf (args .c)) (placeOf d) (loop .inv .0) (loop .inv .1 .0) e)))
 
 pub ahead-spec : {M : Type 1} → statement M
 ahead-spec =

@@ -12,13 +12,19 @@ whole-is-requires : tie.Need-whole-is-requires
 whole-is-requires c κs = search needs
 
 returns : tie.Need-returns
-returns c = ap (Map (c .before .before .before .before .before .before .before .args .x .count)) (c .whole-is .ensures) ∙ end-clear (c .before .before .before .peek .result) (c .before .before .before .before .before .before .before .args .x .cursor .peeked) (c .before .before .before .peek .ensures) (c .before .if1 .taken) _
+returns c =
+    let args = c .before .before .before .before .before .before .before .args in
+    let peek = c .before .before .before .peek in
+    ap (Map (args .x .count)) (c .whole-is .ensures) ∙ end-clear (peek .result) (args .x .cursor .peeked) (peek .ensures) (c .before .if1 .taken) _
 
 stray-requires : tie.Need-stray-requires
 stray-requires c κs = search needs
 
 returns-2 : tie.Need-returns-2
-returns-2 c = end-left (c .before .before .before .peek .result) (c .before .before .before .before .before .before .before .args .x .cursor .peeked) (c .before .before .before .peek .ensures) (c .before .if1 .left) _ (c .stray .result) (c .stray .ensures)
+returns-2 c =
+    let args = c .before .before .before .before .before .before .before .args in
+    let peek = c .before .before .before .peek in
+    end-left (peek .result) (args .x .cursor .peeked) (peek .ensures) (c .before .if1 .left) _ (c .stray .result) (c .stray .ensures)
 
 pub end-map-spec : {M : Type 1} → statement M
 end-map-spec =

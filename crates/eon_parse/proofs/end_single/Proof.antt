@@ -13,24 +13,31 @@ use Rattle.eon_parse.proofs.end_single.Tie as tie
 
 ahead-requires : tie.Need-ahead-requires
 ahead-requires c κs =
-    let s = now (c .before .before .args .text) in
-    ready-at s (c .before .before .args .y .cursor) (c .before .before .args .y .count) 0 (c .before .before .args .y .cursor) (placeOf (c .before .before .args .y .cursor)) (c .before .before .pre) (c .before .before .pre .fresh) (c .before .before .pre .bound) (omega arith)
+    let args = c .before .before .args in
+    let pre = c .before .before .pre in
+    let s = now (args .text) in
+    ready-at s (args .y .cursor) (args .y .count) 0 (args .y .cursor) (placeOf (args .y .cursor)) pre (pre .fresh) (pre .bound) (omega arith)
 
 peek-requires : tie.Need-peek-requires
 peek-requires c κs = search needs
 
 returns : tie.Need-returns
 returns c =
-    let s = now (c .before .before .before .before .before .before .args .text) in
-    end-clear (c .before .before .peek .result) (cursorAt s (endOf (run s 7 (place (c .before .before .before .before .before .before .args .y)))) .peeked) (c .before .before .peek .ensures ∙ ap (λ (y : Cursor). y .peeked) (c .before .before .before .ahead .ensures)) (c .if1 .taken) _
+    let args = c .before .before .before .before .before .before .args in
+    let peek = c .before .before .peek in
+    let s = now (args .text) in
+    end-clear (peek .result) (cursorAt s (endOf (run s 7 (place (args .y)))) .peeked) (peek .ensures ∙ ap (λ (y : Cursor). y .peeked) (c .before .before .before .ahead .ensures)) (c .if1 .taken) _
 
 stray-requires : tie.Need-stray-requires
 stray-requires c κs = search needs
 
 returns-2 : tie.Need-returns-2
 returns-2 c =
-    let s = now (c .before .before .before .before .before .before .before .args .text) in
-    end-left (c .before .before .before .peek .result) (cursorAt s (endOf (run s 7 (place (c .before .before .before .before .before .before .before .args .y)))) .peeked) (c .before .before .before .peek .ensures ∙ ap (λ (y : Cursor). y .peeked) (c .before .before .before .before .ahead .ensures)) (c .before .if1 .left) _ (c .stray .result) (c .stray .ensures)
+    let args = c .before .before .before .before .before .before .before .args in
+    let ahead = c .before .before .before .before .ahead in
+    let peek = c .before .before .before .peek in
+    let s = now (args .text) in
+    end-left (peek .result) (cursorAt s (endOf (run s 7 (place (args .y)))) .peeked) (peek .ensures ∙ ap (λ (y : Cursor). y .peeked) (ahead .ensures)) (c .before .if1 .left) _ (c .stray .result) (c .stray .ensures)
 
 pub end-single-spec : {M : Type 1} → statement M
 end-single-spec =

@@ -12,8 +12,10 @@ use Rattle.eon_parse.proofs.ends.Tie as tie
 
 ahead-requires : tie.Need-ahead-requires
 ahead-requires c κs =
-    let s = now (c .before .before .args .text) in
-    ready-at s (c .before .before .args .w .cursor) (c .before .before .args .w .count) 0 (c .before .before .args .w .cursor) (placeOf (c .before .before .args .w .cursor)) (c .before .before .pre) (c .before .before .pre .fresh) (c .before .before .pre .bound) (omega arith)
+    let args = c .before .before .args in
+    let pre = c .before .before .pre in
+    let s = now (args .text) in
+    ready-at s (args .w .cursor) (args .w .count) 0 (args .w .cursor) (placeOf (args .w .cursor)) pre (pre .fresh) (pre .bound) (omega arith)
 
 peek-requires : tie.Need-peek-requires
 peek-requires c κs = search needs
@@ -24,7 +26,8 @@ closing-requires c κs = search needs
 returns : tie.Need-returns
 unfolding stops
 returns c =
-    let s = now (c .before .before .before .before .before .args .text) in
+    let args = c .before .before .before .before .before .args in
+    let s = now (args .text) in
     c .closing .ensures ∙ ap (λ (t : PlacedToken). closes (t .kind)) (c .before .peek .ensures ∙ ap (λ (y : Cursor). y .peeked) (c .before .before .ahead .ensures))
 
 pub ends-spec : {M : Type 1} → statement M

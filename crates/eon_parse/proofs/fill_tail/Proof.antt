@@ -15,10 +15,16 @@ same-length : tie.Need-same-length
 same-length c = c .before .before .put .kept .1 .0
 
 returns : tie.Need-returns
-returns c = tail-store (now (c .before .before .before .before .before .before .before .before .args .table)) (c .before .before .before .before .before .before .before .before .args .w) (c .before .before .before .before .before .before .before .before .args .from) (c .before .before .before .before .if1 .taken) (c .before .before .put .last .1 .0) (c .before .before .put .ensures)
+returns c =
+    let args = c .before .before .before .before .before .before .before .before .args in
+    let if1 = c .before .before .before .before .if1 in
+    let put = c .before .before .put in
+    tail-store (now (args .table)) (args .w) (args .from) (if1 .taken) (put .last .1 .0) (put .ensures)
 
 returns-2 : tie.Need-returns-2
-returns-2 c = tail-kept (now (c .before .before .before .before .args .table)) (c .before .before .before .before .args .w) (c .before .before .before .before .args .from) (c .if1 .left)
+returns-2 c =
+    let args = c .before .before .before .before .args in
+    tail-kept (now (args .table)) (args .w) (args .from) (c .if1 .left)
 
 pub fill-tail-spec : {M : Type 1} → statement M
 fill-tail-spec = tie.close (tie.spec add-t9 put-requires same-length returns returns-2)

@@ -11,8 +11,9 @@ at-place-requires c κs = search needs
 
 returns : tie.Need-returns
 returns c =
-    let s = now (c .before .before .before .before .args .text) in
-    let tb = now (c .before .before .before .before .args .table) in
+    let args = c .before .before .before .before .args in
+    let s = now (args .text) in
+    let tb = now (args .table) in
     ap outcomeOf (c .at-place .ensures) ∙ fin-long s tb (c .before .if1 .taken)
 
 well-formed-len-requires : tie.Need-well-formed-len-requires
@@ -20,8 +21,9 @@ well-formed-len-requires c κs = search needs
 
 finished-checked-requires : tie.Need-finished-checked-requires
 finished-checked-requires c κs =
-    let s = now (c .before .before .before .before .before .args .text) in
-    let tb = now (c .before .before .before .before .before .args .table) in
+    let args = c .before .before .before .before .before .args in
+    let s = now (args .text) in
+    let tb = now (args .table) in
     (good-text s tb (c .before .well-formed-len .result) (c .before .well-formed-len .ensures) (c .if2 .taken), c .before .before .if1 .left)
 
 returns-2 : tie.Need-returns-2
@@ -32,9 +34,11 @@ at-place-requires-2 c κs = search needs
 
 returns-3 : tie.Need-returns-3
 returns-3 c =
-    let s = now (c .before .before .before .before .before .before .args .text) in
-    let tb = now (c .before .before .before .before .before .before .args .table) in
-    ap outcomeOf (c .at-place2 .ensures) ∙ fin-bad s tb (c .before .before .before .if1 .left) (c .before .before .well-formed-len .result) (c .before .before .well-formed-len .ensures) (c .before .if2 .left)
+    let args = c .before .before .before .before .before .before .args in
+    let well-formed-len = c .before .before .well-formed-len in
+    let s = now (args .text) in
+    let tb = now (args .table) in
+    ap outcomeOf (c .at-place2 .ensures) ∙ fin-bad s tb (c .before .before .before .if1 .left) (well-formed-len .result) (well-formed-len .ensures) (c .before .if2 .left)
 
 pub finished-spec : {M : Type 1} → statement M
 finished-spec =

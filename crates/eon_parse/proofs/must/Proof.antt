@@ -20,40 +20,53 @@ wrong-requires c κs = search needs
 
 returns : tie.Need-returns
 returns c =
+    let pre = c .before .before .before .before .before .before .pre in
+    let peek = c .before .before .before .peek in
     let a = c .before .before .before .before .before .before .args in
     ap (λ (r : Refusal). Refused (stopOf r (a .w .cursor .end))) (c .wrong .ensures)
-    ∙ must-end (now (a .text)) (a .w) (a .w .count) (c .before .before .before .before .before .before .pre) (a .k) (c .before .before .before .peek .result) (c .before .before .before .peek .ensures) (c .before .if1 .taken)
+    ∙ must-end (now (a .text)) (a .w) (a .w .count) pre (a .k) (peek .result) (peek .ensures) (c .before .if1 .taken)
 
 refuse-at-requires : tie.Need-refuse-at-requires
 refuse-at-requires c κs = search needs
 
 returns-2 : tie.Need-returns-2
 returns-2 c =
+    let pre = c .before .before .before .before .before .before .before .before .pre in
+    let peek = c .before .before .before .before .before .peek in
     let a = c .before .before .before .before .before .before .before .before .args in
     ap Refused (c .refuse-at .ensures)
-    ∙ must-stray (now (a .text)) (a .w) (a .w .count) (c .before .before .before .before .before .before .before .before .pre) (a .k) (c .before .before .before .before .before .peek .result) (c .before .before .before .before .before .peek .ensures) (c .before .before .before .if1 .left) (c .before .if2 .taken)
+    ∙ must-stray (now (a .text)) (a .w) (a .w .count) pre (a .k) (peek .result) (peek .ensures) (c .before .before .before .if1 .left) (c .before .if2 .taken)
 
 skip-requires : tie.Need-skip-requires
 skip-requires c κs =
+    let pre = c .before .before .before .before .before .before .before .before .before .pre in
+    let peek = c .before .before .before .before .before .before .peek in
+    let if1 = c .before .before .before .before .if1 in
     let a = c .before .before .before .before .before .before .before .before .before .args in
     let s = now (a .text) in
-    let e = c .before .before .before .before .before .before .peek .ensures ∙ peeks s (a .w .cursor) (a .w .count) (c .before .before .before .before .before .before .before .before .before .pre) in
-    let k = kind-lt s (place (a .w)) (λ z. c .before .before .before .before .if1 .left (ap (λ (u : PlacedToken). u .kind) e ∙ z)) in
-    (c .before .before .before .before .before .before .before .before .before .pre, omega (arith, k, peeks-kind s (a .w .cursor) (a .w .count) (c .before .before .before .before .before .before .before .before .before .pre)))
+    let e = peek .ensures ∙ peeks s (a .w .cursor) (a .w .count) pre in
+    let k = kind-lt s (place (a .w)) (λ z. if1 .left (ap (λ (u : PlacedToken). u .kind) e ∙ z)) in
+    (pre, omega (arith, k, peeks-kind s (a .w .cursor) (a .w .count) pre))
 
 returns-3 : tie.Need-returns-3
 returns-3 c =
+    let pre = c .before .before .before .before .before .before .before .before .before .before .pre in
+    let peek = c .before .before .before .before .before .before .before .peek in
+    let if1 = c .before .before .before .before .before .if1 in
     let a = c .before .before .before .before .before .before .before .before .before .before .args in
-    must-done (now (a .text)) (a .w) (a .w .count) (c .before .before .before .before .before .before .before .before .before .before .pre) (a .k) (c .before .before .before .before .before .before .before .peek .result) (c .before .before .before .before .before .before .before .peek .ensures) (c .before .before .before .before .before .if1 .left) (c .before .before .before .if2 .left) (c .before .if3 .taken) (c .skip .result) (c .skip .ensures)
+    must-done (now (a .text)) (a .w) (a .w .count) pre (a .k) (peek .result) (peek .ensures) (if1 .left) (c .before .before .before .if2 .left) (c .before .if3 .taken) (c .skip .result) (c .skip .ensures)
 
 wrong-requires-2 : tie.Need-wrong-requires-2
 wrong-requires-2 c κs = search needs
 
 returns-4 : tie.Need-returns-4
 returns-4 c =
+    let pre = c .before .before .before .before .before .before .before .before .before .before .pre in
+    let peek = c .before .before .before .before .before .before .before .peek in
+    let if1 = c .before .before .before .before .before .if1 in
     let a = c .before .before .before .before .before .before .before .before .before .before .args in
-    ap (λ (r : Refusal). Refused (stopOf r (c .before .before .before .before .before .before .before .peek .result .end))) (c .wrong2 .ensures)
-    ∙ must-wrong (now (a .text)) (a .w) (a .w .count) (c .before .before .before .before .before .before .before .before .before .before .pre) (a .k) (c .before .before .before .before .before .before .before .peek .result) (c .before .before .before .before .before .before .before .peek .ensures) (c .before .before .before .before .before .if1 .left) (c .before .before .before .if2 .left) (c .before .if3 .left)
+    ap (λ (r : Refusal). Refused (stopOf r (peek .result .end))) (c .wrong2 .ensures)
+    ∙ must-wrong (now (a .text)) (a .w) (a .w .count) pre (a .k) (peek .result) (peek .ensures) (if1 .left) (c .before .before .before .if2 .left) (c .before .if3 .left)
 
 pub must-spec : {M : Type 1} → statement M
 must-spec =

@@ -40,12 +40,16 @@ same-length c = search needs
 
 returns : tie.Need-returns
 returns c =
+    let put-word = c .before .before .before .before .before .before .before .before .before .before .before .before .before .before .before .before .before .before .put-word in
+    let put-word2 = c .before .before .before .before .before .before .before .before .before .before .before .before .before .before .put-word2 in
+    let put-word3 = c .before .before .before .before .before .before .before .before .before .before .put-word3 in
+    let put-word4 = c .before .before .before .before .before .before .put-word4 in
     let a = c .before .before .before .before .before .before .before .before .before .before .before .before .before .before .before .before .before .before .before .before .before .args in
     c .before .before .put-word5 .ensures
-    ∙ ap (λ (l : List ℕ). set l (a .i + 4) (a .size)) (c .before .before .before .before .before .before .put-word4 .ensures
-    ∙ ap (λ (l : List ℕ). set l (a .i + 3) (a .end)) (c .before .before .before .before .before .before .before .before .before .before .put-word3 .ensures
-    ∙ ap (λ (l : List ℕ). set l (a .i + 2) (a .name)) (c .before .before .before .before .before .before .before .before .before .before .before .before .before .before .put-word2 .ensures
-    ∙ ap (λ (l : List ℕ). set l (a .i + 1) (a .start)) (c .before .before .before .before .before .before .before .before .before .before .before .before .before .before .before .before .before .before .put-word .ensures))))
+    ∙ ap (λ (l : List ℕ). set l (a .i + 4) (a .size)) (put-word4 .ensures
+    ∙ ap (λ (l : List ℕ). set l (a .i + 3) (a .end)) (put-word3 .ensures
+    ∙ ap (λ (l : List ℕ). set l (a .i + 2) (a .name)) (put-word2 .ensures
+    ∙ ap (λ (l : List ℕ). set l (a .i + 1) (a .start)) (put-word .ensures))))
     ∙ sets-5 (now (a .table)) (a .i) (a .kind) (a .start) (a .name) (a .end) (a .size)
 
 pub put-record-spec : {M : Type 1} → statement M

@@ -12,8 +12,9 @@ at-place-requires c κs = search needs
 
 returns : tie.Need-returns
 returns c =
-    let s = now (c .before .before .before .before .args .text) in
-    let tb = now (c .before .before .before .before .args .table) in
+    let args = c .before .before .before .before .args in
+    let s = now (args .text) in
+    let tb = now (args .table) in
     ap (λ (a : Answer). after (outcomeOf a) tb) (c .at-place .ensures) ∙ read-long s tb (c .before .if1 .taken)
 
 well-formed-len-requires : tie.Need-well-formed-len-requires
@@ -21,9 +22,11 @@ well-formed-len-requires c κs = search needs
 
 read-checked-requires : tie.Need-read-checked-requires
 read-checked-requires c κs =
-    let s = now (c .before .before .before .before .before .before .args .text) in
-    let tb = now (c .before .before .before .before .before .before .args .table) in
-    (good-text s tb (c .before .before .well-formed-len .result) (c .before .before .well-formed-len .ensures) (c .before .if2 .taken), c .before .before .before .if1 .left)
+    let args = c .before .before .before .before .before .before .args in
+    let well-formed-len = c .before .before .well-formed-len in
+    let s = now (args .text) in
+    let tb = now (args .table) in
+    (good-text s tb (well-formed-len .result) (well-formed-len .ensures) (c .before .if2 .taken), c .before .before .before .if1 .left)
 
 same-length : tie.Need-same-length
 same-length c = search needs
@@ -36,10 +39,12 @@ at-place-requires-2 c κs = search needs
 
 returns-3 : tie.Need-returns-3
 returns-3 c =
-    let s = now (c .before .before .before .before .before .before .args .text) in
-    let tb = now (c .before .before .before .before .before .before .args .table) in
+    let args = c .before .before .before .before .before .before .args in
+    let well-formed-len = c .before .before .well-formed-len in
+    let s = now (args .text) in
+    let tb = now (args .table) in
     ap (λ (a : Answer). after (outcomeOf a) tb) (c .at-place2 .ensures)
-    ∙ read-bad s tb (c .before .before .before .if1 .left) (c .before .before .well-formed-len .result) (c .before .before .well-formed-len .ensures) (c .before .if2 .left)
+    ∙ read-bad s tb (c .before .before .before .if1 .left) (well-formed-len .result) (well-formed-len .ensures) (c .before .if2 .left)
 
 pub read-spec : {M : Type 1} → statement M
 read-spec =

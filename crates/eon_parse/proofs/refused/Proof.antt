@@ -17,8 +17,10 @@ refusal-requires c κs = search needs
 
 returns : tie.Need-returns
 returns c =
-    ap (λ (r : Refusal). Refused (stopOf r (c .before .before .before .before .before .before .args .w .cursor .end))) (c .refusal .ensures)
-    ∙ none-end (length (now (c .before .before .before .before .before .before .args .text))) (c .before .before .before .before .before .before .args .w .cursor) (c .before .before .before .peek .result) (c .before .before .before .peek .ensures) (c .before .if1 .taken)
+    let args = c .before .before .before .before .before .before .args in
+    let peek = c .before .before .before .peek in
+    ap (λ (r : Refusal). Refused (stopOf r (args .w .cursor .end))) (c .refusal .ensures)
+    ∙ none-end (length (now (args .text))) (args .w .cursor) (peek .result) (peek .ensures) (c .before .if1 .taken)
 
 number-of-requires : tie.Need-number-of-requires
 number-of-requires c κs = search needs
@@ -28,8 +30,10 @@ refuse-at-requires c κs = search needs
 
 returns-2 : tie.Need-returns-2
 returns-2 c =
+    let args = c .before .before .before .before .before .before .before .args in
+    let peek = c .before .before .before .before .peek in
     ap Refused (c .refuse-at .ensures)
-    ∙ none-token (length (now (c .before .before .before .before .before .before .before .args .text))) (c .before .before .before .before .before .before .before .args .w .cursor) (c .before .before .before .before .peek .result) (c .before .before .before .before .peek .ensures) (c .before .before .if1 .left) (c .before .number-of .result) (c .before .number-of .ensures)
+    ∙ none-token (length (now (args .text))) (args .w .cursor) (peek .result) (peek .ensures) (c .before .before .if1 .left) (c .before .number-of .result) (c .before .number-of .ensures)
 
 pub refused-spec : {M : Type 1} → statement M
 refused-spec =

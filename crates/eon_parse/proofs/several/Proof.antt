@@ -25,15 +25,21 @@ end-several-requires c κs = search needs
 
 returns : tie.Need-returns
 returns c =
-    let s = now (c .before .before .before .before .before .before .before .args .text) in
-    let tb = now (c .before .before .before .before .before .before .before .args .table) in
-    several-refused s tb (c .before .before .before .before .before .before .before .args .w) (c .before .before .before .before .before .before .before .args .a) (inside s (one s (below 128 s)) (place (c .before .before .before .before .before .before .before .args .w))) (c .before .before .b .given .0 .0) (was-refused s tb (c .before .before .before .before .before .before .before .args .w) (inside s (one s (below 128 s)) (place (c .before .before .before .before .before .before .before .args .w))) (sym (c .before .before .before .before .list .ensures) ∙ c .before .before .b .given .1)) (c .further-of .result) (c .further-of .ensures)
+    let args = c .before .before .before .before .before .before .before .args in
+    let list = c .before .before .before .before .list in
+    let b = c .before .before .b in
+    let s = now (args .text) in
+    let tb = now (args .table) in
+    several-refused s tb (args .w) (args .a) (inside s (one s (below 128 s)) (place (args .w))) (b .given .0 .0) (was-refused s tb (args .w) (inside s (one s (below 128 s)) (place (args .w))) (sym (list .ensures) ∙ b .given .1)) (c .further-of .result) (c .further-of .ensures)
 
 returns-2 : tie.Need-returns-2
 returns-2 c =
-    let s = now (c .before .before .before .before .before .before .before .args .text) in
-    let tb = now (c .before .before .before .before .before .before .before .args .table) in
-    several-done s tb (c .before .before .before .before .before .before .before .args .w) (c .before .before .before .before .before .before .before .args .a) (inside s (one s (below 128 s)) (place (c .before .before .before .before .before .before .before .args .w))) (c .before .before .x .given .0 .0) (was-done s tb (c .before .before .before .before .before .before .before .args .w) (inside s (one s (below 128 s)) (place (c .before .before .before .before .before .before .before .args .w))) (sym (c .before .before .before .before .list .ensures) ∙ c .before .before .x .given .1)) (c .end-several .result) (c .end-several .ensures)
+    let args = c .before .before .before .before .before .before .before .args in
+    let list = c .before .before .before .before .list in
+    let x = c .before .before .x in
+    let s = now (args .text) in
+    let tb = now (args .table) in
+    several-done s tb (args .w) (args .a) (inside s (one s (below 128 s)) (place (args .w))) (x .given .0 .0) (was-done s tb (args .w) (inside s (one s (below 128 s)) (place (args .w))) (sym (list .ensures) ∙ x .given .1)) (c .end-several .result) (c .end-several .ensures)
 
 pub several-spec : {M : Type 1} → statement M
 several-spec =

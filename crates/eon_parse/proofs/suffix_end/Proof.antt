@@ -16,49 +16,64 @@ peek-requires c κs = search needs
 
 line-feed-requires : tie.Need-line-feed-requires
 line-feed-requires c κs =
-    let s = now (c .before .before .before .before .args .text) in
-    let c′ = c .before .before .before .before .args .c in
-    let t : c .before .before .peek .result ≡ placedAt s (c′ .end) = c .before .before .peek .ensures ∙ peeks s c′ 0 (c .before .before .before .before .pre) in
-    let k : c .before .before .peek .result .kind ≡ kindAt s (placeOf c′) = ap (λ (u : PlacedToken). u .kind) t in
-    let b : c .before .before .peek .result .start ≡ nextSpan s (placeOf c′) .start = ap (λ (u : PlacedToken). u .start) t in
-    let g = gets s (placeOf c′) (c .before .before .before .before .pre .bound) (omega (arith, k, c .if1 .taken)) in
+    let args = c .before .before .before .before .args in
+    let pre = c .before .before .before .before .pre in
+    let peek = c .before .before .peek in
+    let s = now (args .text) in
+    let c′ = args .c in
+    let t : peek .result ≡ placedAt s (c′ .end) = peek .ensures ∙ peeks s c′ 0 pre in
+    let k : peek .result .kind ≡ kindAt s (placeOf c′) = ap (λ (u : PlacedToken). u .kind) t in
+    let b : peek .result .start ≡ nextSpan s (placeOf c′) .start = ap (λ (u : PlacedToken). u .start) t in
+    let g = gets s (placeOf c′) (pre .bound) (omega (arith, k, c .if1 .taken)) in
     (omega (arith, b, g .behind), omega (arith, b, g .long, g .bound .within))
 
 returns : tie.Need-returns
 returns c =
-    let s = now (c .before .before .before .before .before .before .args .text) in
-    let c′ = c .before .before .before .before .before .before .args .c in
-    let t : c .before .before .before .before .peek .result ≡ placedAt s (c′ .end) = c .before .before .before .before .peek .ensures ∙ peeks s c′ 0 (c .before .before .before .before .before .before .pre) in
-    let k : c .before .before .before .before .peek .result .kind ≡ kindAt s (placeOf c′) = ap (λ (u : PlacedToken). u .kind) t in
-    let b : c .before .before .before .before .peek .result .start ≡ nextSpan s (placeOf c′) .start = ap (λ (u : PlacedToken). u .start) t in
-    suffix-feed s c′ (c .before .before .before .before .before .before .pre) (sym k ∙ c .before .before .if1 .taken) (sym (ap (lineFeed s (c′ .end)) b) ∙ sym (c .before .line-feed .ensures) ∙ c .if2 .taken)
+    let args = c .before .before .before .before .before .before .args in
+    let pre = c .before .before .before .before .before .before .pre in
+    let peek = c .before .before .before .before .peek in
+    let s = now (args .text) in
+    let c′ = args .c in
+    let t : peek .result ≡ placedAt s (c′ .end) = peek .ensures ∙ peeks s c′ 0 pre in
+    let k : peek .result .kind ≡ kindAt s (placeOf c′) = ap (λ (u : PlacedToken). u .kind) t in
+    let b : peek .result .start ≡ nextSpan s (placeOf c′) .start = ap (λ (u : PlacedToken). u .start) t in
+    suffix-feed s c′ pre (sym k ∙ c .before .before .if1 .taken) (sym (ap (lineFeed s (c′ .end)) b) ∙ sym (c .before .line-feed .ensures) ∙ c .if2 .taken)
 
 next-requires : tie.Need-next-requires
 next-requires c κs =
-    let s = now (c .before .before .before .before .before .before .args .text) in
-    let c′ = c .before .before .before .before .before .before .args .c in
-    let t : c .before .before .before .before .peek .result ≡ placedAt s (c′ .end) = c .before .before .before .before .peek .ensures ∙ peeks s c′ 0 (c .before .before .before .before .before .before .pre) in
-    let k : c .before .before .before .before .peek .result .kind ≡ kindAt s (placeOf c′) = ap (λ (u : PlacedToken). u .kind) t in
-    let b : c .before .before .before .before .peek .result .start ≡ nextSpan s (placeOf c′) .start = ap (λ (u : PlacedToken). u .start) t in
-    (standing (c .before .before .before .before .before .before .pre), omega (arith, k, c .before .before .if1 .taken, peeks-kind s c′ 0 (c .before .before .before .before .before .before .pre)))
+    let args = c .before .before .before .before .before .before .args in
+    let pre = c .before .before .before .before .before .before .pre in
+    let peek = c .before .before .before .before .peek in
+    let s = now (args .text) in
+    let c′ = args .c in
+    let t : peek .result ≡ placedAt s (c′ .end) = peek .ensures ∙ peeks s c′ 0 pre in
+    let k : peek .result .kind ≡ kindAt s (placeOf c′) = ap (λ (u : PlacedToken). u .kind) t in
+    let b : peek .result .start ≡ nextSpan s (placeOf c′) .start = ap (λ (u : PlacedToken). u .start) t in
+    (standing pre, omega (arith, k, c .before .before .if1 .taken, peeks-kind s c′ 0 pre))
 
 returns-2 : tie.Need-returns-2
 returns-2 c =
-    let s = now (c .before .before .before .before .before .before .before .args .text) in
-    let c′ = c .before .before .before .before .before .before .before .args .c in
-    let t : c .before .before .before .before .before .peek .result ≡ placedAt s (c′ .end) = c .before .before .before .before .before .peek .ensures ∙ peeks s c′ 0 (c .before .before .before .before .before .before .before .pre) in
-    let k : c .before .before .before .before .before .peek .result .kind ≡ kindAt s (placeOf c′) = ap (λ (u : PlacedToken). u .kind) t in
-    let b : c .before .before .before .before .before .peek .result .start ≡ nextSpan s (placeOf c′) .start = ap (λ (u : PlacedToken). u .start) t in
-    suffix-there s c′ (c .before .before .before .before .before .before .before .pre) (sym k ∙ c .before .before .before .if1 .taken) (sym (ap (lineFeed s (c′ .end)) b) ∙ sym (c .before .before .line-feed .ensures) ∙ c .before .if2 .left) (c .next .result) (c .next .ensures .0)
+    let args = c .before .before .before .before .before .before .before .args in
+    let pre = c .before .before .before .before .before .before .before .pre in
+    let peek = c .before .before .before .before .before .peek in
+    let s = now (args .text) in
+    let c′ = args .c in
+    let t : peek .result ≡ placedAt s (c′ .end) = peek .ensures ∙ peeks s c′ 0 pre in
+    let k : peek .result .kind ≡ kindAt s (placeOf c′) = ap (λ (u : PlacedToken). u .kind) t in
+    let b : peek .result .start ≡ nextSpan s (placeOf c′) .start = ap (λ (u : PlacedToken). u .start) t in
+    suffix-there s c′ pre (sym k ∙ c .before .before .before .if1 .taken) (sym (ap (lineFeed s (c′ .end)) b) ∙ sym (c .before .before .line-feed .ensures) ∙ c .before .if2 .left) (c .next .result) (c .next .ensures .0)
 
 returns-3 : tie.Need-returns-3
 returns-3 c =
-    let s = now (c .before .before .before .before .args .text) in
-    let c′ = c .before .before .before .before .args .c in
-    let t : c .before .before .peek .result ≡ placedAt s (c′ .end) = c .before .before .peek .ensures ∙ peeks s c′ 0 (c .before .before .before .before .pre) in
-    let k : c .before .before .peek .result .kind ≡ kindAt s (placeOf c′) = ap (λ (u : PlacedToken). u .kind) t in
-    let b : c .before .before .peek .result .start ≡ nextSpan s (placeOf c′) .start = ap (λ (u : PlacedToken). u .start) t in
-    suffix-none s c′ (c .before .before .before .before .pre) (λ z. c .if1 .left (k ∙ z))
+    let args = c .before .before .before .before .args in
+    let pre = c .before .before .before .before .pre in
+    let peek = c .before .before .peek in
+    let s = now (args .text) in
+    let c′ = args .c in
+    let t : peek .result ≡ placedAt s (c′ .end) = peek .ensures ∙ peeks s c′ 0 pre in
+    let k : peek .result .kind ≡ kindAt s (placeOf c′) = ap (λ (u : PlacedToken). u .kind) t in
+    let b : peek .result .start ≡ nextSpan s (placeOf c′) .start = ap (λ (u : PlacedToken). u .start) t in
+    suffix-none s c′ pre (λ z. c .if1 .left (k ∙ z))
 
 pub suffix-end-spec : {M : Type 1} → statement M
 suffix-end-spec =

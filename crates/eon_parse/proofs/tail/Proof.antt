@@ -12,10 +12,14 @@ compared-requires : tie.Need-compared-requires
 compared-requires c κs = omega arith
 
 returns : tie.Need-returns
-returns c = c .compared .ensures ∙ tail-there (now (c .before .before .before .before .before .args .table)) (c .before .before .before .before .before .args .w) (c .before .before .before .before .before .args .from) (c .before .if1 .taken)
+returns c =
+    let args = c .before .before .before .before .before .args in
+    c .compared .ensures ∙ tail-there (now (args .table)) (args .w) (args .from) (c .before .if1 .taken)
 
 returns-2 : tie.Need-returns-2
-returns-2 c = tail-none (now (c .before .before .before .before .args .table)) (c .before .before .before .before .args .w) (c .before .before .before .before .args .from) (c .if1 .left)
+returns-2 c =
+    let args = c .before .before .before .before .args in
+    tail-none (now (args .table)) (args .w) (args .from) (c .if1 .left)
 
 pub tail-spec : {M : Type 1} → statement M
 tail-spec = tie.close (tie.spec add-t9 compared-requires returns returns-2)

@@ -11,10 +11,14 @@ record-is-requires : tie.Need-record-is-requires
 record-is-requires c κs = omega arith
 
 returns : tie.Need-returns
-returns c = c .record-is .ensures ∙ sym (ap (λ (z : Bool). cond z (agrees (now (c .before .before .before .args .table)) 0 (c .before .before .before .args .kind ∷ 0 ∷ c .before .before .before .args .len ∷ c .before .before .before .args .len ∷ c .before .before .before .args .x .count ∷ [])) false) (c .before .if1 .taken))
+returns c =
+    let args = c .before .before .before .args in
+    c .record-is .ensures ∙ sym (ap (λ (z : Bool). cond z (agrees (now (args .table)) 0 (args .kind ∷ 0 ∷ args .len ∷ args .len ∷ args .x .count ∷ [])) false) (c .before .if1 .taken))
 
 returns-2 : tie.Need-returns-2
-returns-2 c = sym (ap (λ (z : Bool). cond z (agrees (now (c .before .before .args .table)) 0 (c .before .before .args .kind ∷ 0 ∷ c .before .before .args .len ∷ c .before .before .args .len ∷ c .before .before .args .x .count ∷ [])) false) (c .if1 .left))
+returns-2 c =
+    let args = c .before .before .args in
+    sym (ap (λ (z : Bool). cond z (agrees (now (args .table)) 0 (args .kind ∷ 0 ∷ args .len ∷ args .len ∷ args .x .count ∷ [])) false) (c .if1 .left))
 
 pub whole-is-spec : {M : Type 1} → statement M
 whole-is-spec = tie.close (tie.spec record-is-requires returns returns-2)

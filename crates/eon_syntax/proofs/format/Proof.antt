@@ -22,7 +22,9 @@ new-requires c κs = search needs
 
 -- src/lib.rt:22:9
 returns : tie.Need-returns
-returns c = settings-refused (c .before .before .before .before .before .before .args .text .now) (c .before .before .before .before .before .before .args .table .now) (c .before .before .before .before .before .before .args .options) (c .before .before .before .before .before .before .args .out .now) (c .new .result) (c .new .ensures) (sym (c .before .before .good-settings .ensures) ∙ not-true _ (c .before .if1 .taken))
+returns c =
+    let args = c .before .before .before .before .before .before .args in
+    settings-refused (args .text .now) (args .table .now) (args .options) (args .out .now) (c .new .result) (c .new .ensures) (sym (c .before .before .good-settings .ensures) ∙ not-true _ (c .before .if1 .taken))
 
 -- src/lib.rt:24:11
 finished-requires : tie.Need-finished-requires
@@ -39,12 +41,20 @@ enum-known-n c = search needs
 -- src/lib.rt:26:28
 format-finished-requires : tie.Need-format-finished-requires
 format-finished-requires c κs =
-    (sym (c .before .before .before .before .before .before .good-settings .ensures) ∙ not-false _ (c .before .before .before .before .before .if1 .left), text-finished (c .before .before .before .before .before .before .before .before .before .before .args .text .now) (c .before .before .before .before .before .before .before .before .before .before .args .table .now) (c .before .before .before .before .finished .result) (c .before .before .before .before .finished .ensures) _ (c .before .before .n .given .1))
+    let args = c .before .before .before .before .before .before .before .before .before .before .args in
+    let good-settings = c .before .before .before .before .before .before .good-settings in
+    let if1 = c .before .before .before .before .before .if1 in
+    let finished = c .before .before .before .before .finished in
+    (sym (good-settings .ensures) ∙ not-false _ (if1 .left), text-finished (args .text .now) (args .table .now) (finished .result) (finished .ensures) _ (c .before .before .n .given .1))
 
 -- src/lib.rt:18:1
 returns-2 : tie.Need-returns-2
 returns-2 c =
-    text-refused (c .before .before .before .before .before .before .before .before .before .args .text .now) (c .before .before .before .before .before .before .before .before .before .args .table .now) (c .before .before .before .finished .result) (c .before .before .before .finished .ensures) (c .before .before .before .before .before .before .before .before .before .args .options) (c .before .before .before .before .before .before .before .before .before .args .out .now) _ (c .before .r .given .1) (sym (c .before .before .before .before .before .good-settings .ensures) ∙ not-false _ (c .before .before .before .before .if1 .left))
+    let args = c .before .before .before .before .before .before .before .before .before .args in
+    let good-settings = c .before .before .before .before .before .good-settings in
+    let if1 = c .before .before .before .before .if1 in
+    let finished = c .before .before .before .finished in
+    text-refused (args .text .now) (args .table .now) (finished .result) (finished .ensures) (args .options) (args .out .now) _ (c .before .r .given .1) (sym (good-settings .ensures) ∙ not-false _ (if1 .left))
 
 -- src/lib.rt:18:1
 same-length : tie.Need-same-length

@@ -31,8 +31,12 @@ same-length-2 c = search needs
 -- src/lib.rt:58:1
 returns : tie.Need-returns
 returns c =
-    run-is (c .before .before .before .before .before .before .before .before .before .before .before .before .before .args .text .now) (c .before .before .before .before .before .before .before .before .before .before .before .before .before .args .table .now) (c .before .before .before .before .before .before .before .before .before .before .before .before .before .args .out .now) (c .before .before .before .before .before .before .before .before .read .result) (c .before .before .format .result) (c .before .before .before .before .new .result) (c .before .before .before .before .before .before .before .before .read .last .1 .0) (c .before .before .format .last .1 .1 .1 .0) (c .before .before .before .before .before .before .before .before .read .ensures) (c .before .before .before .before .new .ensures)
-    (c .before .before .format .ensures)
+    let args = c .before .before .before .before .before .before .before .before .before .before .before .before .before .args in
+    let read = c .before .before .before .before .before .before .before .before .read in
+    let new = c .before .before .before .before .new in
+    let format = c .before .before .format in
+    run-is (args .text .now) (args .table .now) (args .out .now) (read .result) (format .result) (new .result) (read .last .1 .0) (format .last .1 .1 .1 .0) (read .ensures) (new .ensures)
+    (format .ensures)
 
 pub run-spec : {M : Type 1} → statement M
 run-spec =

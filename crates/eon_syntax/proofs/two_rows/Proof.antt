@@ -50,17 +50,20 @@ same-length-8 c = search needs
 -- src/lib.rt:108:1
 returns : tie.Need-returns
 returns c =
-    let i = c .before .before .before .before .before .before .before .before .before .before .before .before .before .before .before .before .before .before .before .before .before .two-runs .ensures in
-    let j = c .before .before .before .before .before .before .before .before .two-runs2 .ensures in
-    let f = c .before .before .before .before .before .before .before .before .before .before .before .before .before .before .before .before .before .before .before .before .before .two-runs .result in
-    let g = c .before .before .before .before .before .before .before .before .two-runs2 .result in
-    let x = c .before .before .before .before .before .before .before .before .before .before .before .before .before .before .before .before .before .before .before .before .before .two-runs .last in
-    let y = c .before .before .before .before .before .before .before .before .two-runs2 .last in (
+    let args = c .before .before .before .before .before .before .before .before .before .before .before .before .before .before .before .before .before .before .before .before .before .before .before .before .before .before .before .before .before .before .before .before .before .before .before .before .args in
+    let two-runs = c .before .before .before .before .before .before .before .before .before .before .before .before .before .before .before .before .before .before .before .before .before .two-runs in
+    let two-runs2 = c .before .before .before .before .before .before .before .before .two-runs2 in
+    let i = two-runs .ensures in
+    let j = two-runs2 .ensures in
+    let f = two-runs .result in
+    let g = two-runs2 .result in
+    let x = two-runs .last in
+    let y = two-runs2 .last in (
       i,
       (
         j,
         λ t u p m q n.
-            share-text (c .before .before .before .before .before .before .before .before .before .before .before .before .before .before .before .before .before .before .before .before .before .before .before .before .before .before .before .before .before .before .before .before .before .before .before .before .args .a .now) t p (c .before .before .before .before .before .before .before .before .before .before .before .before .before .before .before .before .before .before .before .before .before .before .before .before .before .before .before .before .before .before .before .before .before .before .before .before .args .table1 .now) (c .before .before .before .before .before .before .before .before .before .before .before .before .before .before .before .before .before .before .before .before .before .before .before .before .before .before .before .before .before .before .before .before .before .before .before .before .args .out1 .now) m (c .before .before .before .before .before .before .before .before .before .before .before .before .before .before .before .before .before .before .before .before .before .before .before .before .before .before .before .before .before .before .before .before .before .before .before .before .args .b .now) u q (c .before .before .before .before .before .before .before .before .before .before .before .before .before .before .before .before .before .before .before .before .before .before .before .before .before .before .before .before .before .before .before .before .before .before .before .before .args .table3 .now) (c .before .before .before .before .before .before .before .before .before .before .before .before .before .before .before .before .before .before .before .before .before .before .before .before .before .before .before .before .before .before .before .before .before .before .before .before .args .out3 .now) n (f .afternoon) (g .afternoon) (x .1 .0) (x .1 .1 .0) (y .1 .0) (y .1 .1 .0) (i .afternoon) (j .afternoon),
+            share-text (args .a .now) t p (args .table1 .now) (args .out1 .now) m (args .b .now) u q (args .table3 .now) (args .out3 .now) n (f .afternoon) (g .afternoon) (x .1 .0) (x .1 .1 .0) (y .1 .0) (y .1 .1 .0) (i .afternoon) (j .afternoon),
       ),
     )
 

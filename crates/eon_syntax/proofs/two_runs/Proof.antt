@@ -29,7 +29,9 @@ slice-reshare-prefix-run c = search needs
 
 -- src/lib.rt:98:23
 slice-aggregate-run : tie.Need-slice-aggregate-run
-slice-aggregate-run c = sym (length-take-le (c .before .wrote-len .result) (c .before .before .before .before .before .before .run .last .1 .1 .0) (c .before .wrote-len .ensures .0))
+slice-aggregate-run c =
+    let run = c .before .before .before .before .before .before .run in
+    sym (length-take-le (c .before .wrote-len .result) (run .last .1 .1 .0) (c .before .wrote-len .ensures .0))
 
 -- src/lib.rt:98:9
 run-requires-2 : tie.Need-run-requires-2
@@ -54,12 +56,16 @@ same-length-4 c = search needs
 -- src/lib.rt:84:1
 returns : tie.Need-returns
 returns c =
-    let s = c .before .before .before .before .before .before .before .before .before .before .before .before .before .before .before .before .before .before .before .before .before .args .text .now in
-    let e : length (c .before .before .before .before .before .before .before .before .before .before .before .before .before .run .last .1 .1 .0) ≡ length (c .before .before .before .before .before .before .before .before .before .before .before .before .before .before .before .before .before .before .before .before .before .args .out1 .now) = search needs in
-    let i = c .before .before .before .before .before .before .before .before .before .before .before .before .before .run .ensures in
-    let t = evening-part s (c .before .before .before .before .before .before .before .before .before .before .before .before .before .before .before .before .before .before .before .before .before .args .table1 .now) (c .before .before .before .before .before .before .before .before .before .before .before .before .before .before .before .before .before .before .before .before .before .args .out1 .now) (c .before .before .before .before .before .before .before .before .before .before .before .before .before .run .result) (c .before .before .before .before .before .before .before .before .before .before .before .before .before .run .last .1 .0) (c .before .before .before .before .before .before .before .before .before .before .before .before .before .run .last .1 .1 .0) (c .before .before .before .before .before .before .before .before .wrote-len .result) i (λ o l. c .before .before .before .before .before .before .before .before .wrote-len .ensures .1 o (l ∙ sym e)) e in
-    let j = run-on _ _ (c .before .before .before .before .before .before .before .before .before .before .before .before .before .before .before .before .before .before .before .before .before .args .table2 .now) (c .before .before .before .before .before .before .before .before .before .before .before .before .before .before .before .before .before .before .before .before .before .args .out2 .now) (c .before .before .before .before .run2 .result) (c .before .before .before .before .run2 .last .1 .0) (c .before .before .before .before .run2 .last .1 .1 .0) t (c .before .before .before .before .run2 .ensures) in
-    record { afternoon = i; evening = j; under-the-premises = λ u p m n. round.two-runs s u (c .before .before .before .before .before .before .before .before .before .before .before .before .before .before .before .before .before .before .before .before .before .args .table1 .now) (c .before .before .before .before .before .before .before .before .before .before .before .before .before .before .before .before .before .before .before .before .before .args .out1 .now) (c .before .before .before .before .before .before .before .before .before .before .before .before .before .before .before .before .before .before .before .before .before .args .table2 .now) (c .before .before .before .before .before .before .before .before .before .before .before .before .before .before .before .before .before .before .before .before .before .args .out2 .now) (c .before .before .before .before .before .before .before .before .before .before .before .before .before .run .result) (c .before .before .before .before .run2 .result) (c .before .before .before .before .before .before .before .before .before .before .before .before .before .run .last .1 .0) (c .before .before .before .before .before .before .before .before .before .before .before .before .before .run .last .1 .1 .0) (c .before .before .before .before .run2 .last .1 .0) (c .before .before .before .before .run2 .last .1 .1 .0) p m n i j }
+    let args = c .before .before .before .before .before .before .before .before .before .before .before .before .before .before .before .before .before .before .before .before .before .args in
+    let run = c .before .before .before .before .before .before .before .before .before .before .before .before .before .run in
+    let wrote-len = c .before .before .before .before .before .before .before .before .wrote-len in
+    let run2 = c .before .before .before .before .run2 in
+    let s = args .text .now in
+    let e : length (run .last .1 .1 .0) ≡ length (args .out1 .now) = search needs in
+    let i = run .ensures in
+    let t = evening-part s (args .table1 .now) (args .out1 .now) (run .result) (run .last .1 .0) (run .last .1 .1 .0) (wrote-len .result) i (λ o l. wrote-len .ensures .1 o (l ∙ sym e)) e in
+    let j = run-on _ _ (args .table2 .now) (args .out2 .now) (run2 .result) (run2 .last .1 .0) (run2 .last .1 .1 .0) t (run2 .ensures) in
+    record { afternoon = i; evening = j; under-the-premises = λ u p m n. round.two-runs s u (args .table1 .now) (args .out1 .now) (args .table2 .now) (args .out2 .now) (run .result) (run2 .result) (run .last .1 .0) (run .last .1 .1 .0) (run2 .last .1 .0) (run2 .last .1 .1 .0) p m n i j }
 
 pub two-runs-spec : {M : Type 1} → statement M
 two-runs-spec =

@@ -12,7 +12,9 @@ enum-known-written c = search needs
 
 -- src/lib.rt:75:17
 returns : tie.Need-returns
-returns c = (omega arith, λ out l. part-some (c .before .before .before .before .args .written) out _ (c .before .before .written .given .1))
+returns c =
+    let args = c .before .before .before .before .args in
+    (omega arith, λ out l. part-some (args .written) out _ (c .before .before .written .given .1))
 
 -- src/lib.rt:79:25
 enum-known-written-2 : tie.Need-enum-known-written-2
@@ -20,7 +22,9 @@ enum-known-written-2 c = search needs
 
 -- src/lib.rt:69:1
 returns-2 : tie.Need-returns-2
-returns-2 c = (omega arith, λ out l. part-all (c .before .before .before .before .args .written) out _ (c .before .before .before .before .args .len) (c .before .before .written .given .1) (c .if1 .left) l)
+returns-2 c =
+    let args = c .before .before .before .before .args in
+    (omega arith, λ out l. part-all (args .written) out _ (args .len) (c .before .before .written .given .1) (c .if1 .left) l)
 
 -- src/lib.rt:69:1
 returns-3 : tie.Need-returns-3

@@ -10,16 +10,24 @@ text-end-requires : tie.Need-text-end-requires
 text-end-requires c κs = search needs
 
 mul-record-is : tie.Need-mul-record-is
-mul-record-is c = omega (arith, c .before .before .before .before .pre)
+mul-record-is c =
+    let pre = c .before .before .before .before .pre in
+    omega (arith, pre)
 
 sub-record-is : tie.Need-sub-record-is
-sub-record-is c = omega (arith, c .before .before .before .before .pre)
+sub-record-is c =
+    let pre = c .before .before .before .before .pre in
+    omega (arith, pre)
 
 record-is-requires : tie.Need-record-is-requires
-record-is-requires c κs = omega (arith, c .before .before .before .before .pre)
+record-is-requires c κs =
+    let pre = c .before .before .before .before .pre in
+    omega (arith, pre)
 
 returns : tie.Need-returns
-returns c = compared-is (now (c .before .before .before .before .before .args .table)) (c .before .before .before .before .before .args .self) (c .before .before .before .before .before .args .base) (c .before .before .before .before .before .args .kind) (c .before .before .before .before .before .args .start) (c .before .before .before .before .before .args .name) (c .before .text-end .result) (c .record-is .result) (c .before .before .if1 .taken) (c .before .text-end .ensures) (c .record-is .ensures)
+returns c =
+    let args = c .before .before .before .before .before .args in
+    compared-is (now (args .table)) (args .self) (args .base) (args .kind) (args .start) (args .name) (c .before .text-end .result) (c .record-is .result) (c .before .before .if1 .taken) (c .before .text-end .ensures) (c .record-is .ensures)
 
 returns-2 : tie.Need-returns-2
 returns-2 c = kept (c .before .before .before .args .self) _ (c .if1 .left)

@@ -26,22 +26,45 @@ enum-known-m : tie.Need-enum-known-m
 enum-known-m c = search needs
 
 returns : tie.Need-returns
-returns c = counts-differ (now (c .before .before .before .before .before .before .before .before .before .before .before .before .before .args .text-a)) (now (c .before .before .before .before .before .before .before .before .before .before .before .before .before .args .table-a)) (now (c .before .before .before .before .before .before .before .before .before .before .before .before .before .args .text-b)) (now (c .before .before .before .before .before .before .before .before .before .before .before .before .before .args .table-b)) (c .before .before .before .before .before .before .n .given .0 .0) (finished-done (now (c .before .before .before .before .before .before .before .before .before .before .before .before .before .args .text-a)) (now (c .before .before .before .before .before .before .before .before .before .before .before .before .before .args .table-a)) (c .before .before .before .before .before .before .n .given .0 .0) (sym (ap outcomeOf (c .before .before .before .before .before .before .n .given .1)) ∙ c .before .before .before .before .before .before .before .before .finished .ensures)) (c .before .before .m .given .0 .0) (finished-done (now (c .before .before .before .before .before .before .before .before .before .before .before .before .before .args .text-b)) (now (c .before .before .before .before .before .before .before .before .before .before .before .before .before .args .table-b)) (c .before .before .m .given .0 .0) (sym (ap outcomeOf (c .before .before .m .given .1)) ∙ c .before .before .before .before .finished2 .ensures)) (c .if1 .taken)
+returns c =
+    let args = c .before .before .before .before .before .before .before .before .before .before .before .before .before .args in
+    let finished = c .before .before .before .before .before .before .before .before .finished in
+    let n = c .before .before .before .before .before .before .n in
+    let finished2 = c .before .before .before .before .finished2 in
+    let m = c .before .before .m in
+    counts-differ (now (args .text-a)) (now (args .table-a)) (now (args .text-b)) (now (args .table-b)) (n .given .0 .0) (finished-done (now (args .text-a)) (now (args .table-a)) (n .given .0 .0) (sym (ap outcomeOf (n .given .1)) ∙ finished .ensures)) (m .given .0 .0) (finished-done (now (args .text-b)) (now (args .table-b)) (m .given .0 .0) (sym (ap outcomeOf (m .given .1)) ∙ finished2 .ensures)) (c .if1 .taken)
 
 same-range-requires : tie.Need-same-range-requires
 same-range-requires c κs =
-    let a = finished-done (now (c .before .before .before .before .before .before .before .before .before .before .before .before .before .args .text-a)) (now (c .before .before .before .before .before .before .before .before .before .before .before .before .before .args .table-a)) (c .before .before .before .before .before .before .n .given .0 .0) (sym (ap outcomeOf (c .before .before .before .before .before .before .n .given .1)) ∙ c .before .before .before .before .before .before .before .before .finished .ensures) in
-    let b = finished-done (now (c .before .before .before .before .before .before .before .before .before .before .before .before .before .args .text-b)) (now (c .before .before .before .before .before .before .before .before .before .before .before .before .before .args .table-b)) (c .before .before .m .given .0 .0) (sym (ap outcomeOf (c .before .before .m .given .1)) ∙ c .before .before .before .before .finished2 .ensures) in
+    let args = c .before .before .before .before .before .before .before .before .before .before .before .before .before .args in
+    let finished = c .before .before .before .before .before .before .before .before .finished in
+    let n = c .before .before .before .before .before .before .n in
+    let finished2 = c .before .before .before .before .finished2 in
+    let m = c .before .before .m in
+    let a = finished-done (now (args .text-a)) (now (args .table-a)) (n .given .0 .0) (sym (ap outcomeOf (n .given .1)) ∙ finished .ensures) in
+    let b = finished-done (now (args .text-b)) (now (args .table-b)) (m .given .0 .0) (sym (ap outcomeOf (m .given .1)) ∙ finished2 .ensures) in
     (omega (arith, a .room), omega (arith, b .room, c .if1 .left))
 
 returns-2 : tie.Need-returns-2
-returns-2 c = first-refused (now (c .before .before .before .before .before .before .before .before .args .text-a)) (now (c .before .before .before .before .before .before .before .before .args .table-a)) (now (c .before .before .before .before .before .before .before .before .args .text-b)) (now (c .before .before .before .before .before .before .before .before .args .table-b)) (c .before .r .given .0 .0) (sym (ap outcomeOf (c .before .r .given .1)) ∙ c .before .before .before .finished .ensures)
+returns-2 c =
+    let args = c .before .before .before .before .before .before .before .before .args in
+    first-refused (now (args .text-a)) (now (args .table-a)) (now (args .text-b)) (now (args .table-b)) (c .before .r .given .0 .0) (sym (ap outcomeOf (c .before .r .given .1)) ∙ c .before .before .before .finished .ensures)
 
 returns-3 : tie.Need-returns-3
-returns-3 c = second-refused (now (c .before .before .before .before .before .before .before .before .before .before .before .before .args .text-a)) (now (c .before .before .before .before .before .before .before .before .before .before .before .before .args .table-a)) (now (c .before .before .before .before .before .before .before .before .before .before .before .before .args .text-b)) (now (c .before .before .before .before .before .before .before .before .before .before .before .before .args .table-b)) (c .before .before .before .before .before .n .given .0 .0) (finished-done (now (c .before .before .before .before .before .before .before .before .before .before .before .before .args .text-a)) (now (c .before .before .before .before .before .before .before .before .before .before .before .before .args .table-a)) (c .before .before .before .before .before .n .given .0 .0) (sym (ap outcomeOf (c .before .before .before .before .before .n .given .1)) ∙ c .before .before .before .before .before .before .before .finished .ensures)) (c .before .q .given .0 .0) (sym (ap outcomeOf (c .before .q .given .1)) ∙ c .before .before .before .finished2 .ensures)
+returns-3 c =
+    let args = c .before .before .before .before .before .before .before .before .before .before .before .before .args in
+    let finished = c .before .before .before .before .before .before .before .finished in
+    let n = c .before .before .before .before .before .n in
+    second-refused (now (args .text-a)) (now (args .table-a)) (now (args .text-b)) (now (args .table-b)) (n .given .0 .0) (finished-done (now (args .text-a)) (now (args .table-a)) (n .given .0 .0) (sym (ap outcomeOf (n .given .1)) ∙ finished .ensures)) (c .before .q .given .0 .0) (sym (ap outcomeOf (c .before .q .given .1)) ∙ c .before .before .before .finished2 .ensures)
 
 returns-4 : tie.Need-returns-4
-returns-4 c = ranges-say (now (c .before .before .before .before .before .before .before .before .before .before .before .before .before .before .args .text-a)) (now (c .before .before .before .before .before .before .before .before .before .before .before .before .before .before .args .table-a)) (now (c .before .before .before .before .before .before .before .before .before .before .before .before .before .before .args .text-b)) (now (c .before .before .before .before .before .before .before .before .before .before .before .before .before .before .args .table-b)) (c .before .before .before .before .before .before .before .n .given .0 .0) (finished-done (now (c .before .before .before .before .before .before .before .before .before .before .before .before .before .before .args .text-a)) (now (c .before .before .before .before .before .before .before .before .before .before .before .before .before .before .args .table-a)) (c .before .before .before .before .before .before .before .n .given .0 .0) (sym (ap outcomeOf (c .before .before .before .before .before .before .before .n .given .1)) ∙ c .before .before .before .before .before .before .before .before .before .finished .ensures)) (c .before .before .before .m .given .0 .0) (finished-done (now (c .before .before .before .before .before .before .before .before .before .before .before .before .before .before .args .text-b)) (now (c .before .before .before .before .before .before .before .before .before .before .before .before .before .before .args .table-b)) (c .before .before .before .m .given .0 .0) (sym (ap outcomeOf (c .before .before .before .m .given .1)) ∙ c .before .before .before .before .before .finished2 .ensures)) (c .before .if1 .left) (c .same-range .result) (c .same-range .ensures)
+returns-4 c =
+    let args = c .before .before .before .before .before .before .before .before .before .before .before .before .before .before .args in
+    let finished = c .before .before .before .before .before .before .before .before .before .finished in
+    let n = c .before .before .before .before .before .before .before .n in
+    let finished2 = c .before .before .before .before .before .finished2 in
+    let m = c .before .before .before .m in
+    ranges-say (now (args .text-a)) (now (args .table-a)) (now (args .text-b)) (now (args .table-b)) (n .given .0 .0) (finished-done (now (args .text-a)) (now (args .table-a)) (n .given .0 .0) (sym (ap outcomeOf (n .given .1)) ∙ finished .ensures)) (m .given .0 .0) (finished-done (now (args .text-b)) (now (args .table-b)) (m .given .0 .0) (sym (ap outcomeOf (m .given .1)) ∙ finished2 .ensures)) (c .before .if1 .left) (c .same-range .result) (c .same-range .ensures)
 
 pub compare-spec : {M : Type 1} → statement M
 compare-spec =

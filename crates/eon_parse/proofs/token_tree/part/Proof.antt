@@ -8,13 +8,17 @@ slice-aggregate-result : tie.Need-slice-aggregate-result
 slice-aggregate-result c = search needs
 
 returns : tie.Need-returns
-returns c = part-empty (now (c .before .before .args .text)) (c .before .before .args .from) (c .before .before .args .to) (c .before .if1 .taken)
+returns c =
+    let args = c .before .before .args in
+    part-empty (now (args .text)) (args .from) (args .to) (c .before .if1 .taken)
 
 slice-aggregate-result-2 : tie.Need-slice-aggregate-result-2
 slice-aggregate-result-2 c = search needs
 
 returns-2 : tie.Need-returns-2
-returns-2 c = part-past (now (c .before .before .before .args .text)) (c .before .before .before .args .from) (c .before .before .before .args .to) (c .before .if2 .taken)
+returns-2 c =
+    let args = c .before .before .before .args in
+    part-past (now (args .text)) (args .from) (args .to) (c .before .if2 .taken)
 
 sub-result : tie.Need-sub-result
 sub-result c = search needs
@@ -26,7 +30,9 @@ part-result-end : tie.Need-part-result-end
 part-result-end c = search needs
 
 returns-3 : tie.Need-returns-3
-returns-3 c = part-cut (now (c .before .before .before .before .args .text)) (c .before .before .before .before .args .from) (c .before .before .before .before .args .to) (c .before .if3 .taken)
+returns-3 c =
+    let args = c .before .before .before .before .args in
+    part-cut (now (args .text)) (args .from) (args .to) (c .before .if3 .taken)
 
 sub-result-2 : tie.Need-sub-result-2
 sub-result-2 c = search needs

@@ -26,10 +26,16 @@ shared-slice-read-if2 : tie.Need-shared-slice-read-if2 Inv-loop μ-loop
 shared-slice-read-if2 c = c .before .loop-test .taken
 
 shared-slice-read-if2-2 : tie.Need-shared-slice-read-if2-2 Inv-loop μ-loop
-shared-slice-read-if2-2 c = omega (arith, c .before .before .loop-test .taken, c .before .before .before .before .if1 .left)
+shared-slice-read-if2-2 c =
+    let if1 = c .before .before .before .before .if1 in
+    omega (arith, c .before .before .loop-test .taken, if1 .left)
 
 returns-2 : tie.Need-returns-2 Inv-loop μ-loop
-returns-2 c = sym (sym (c .before .before .before .before .loop .inv .1) ∙ bytes-more (now (c .before .before .before .before .before .before .args .a)) (now (c .before .before .before .before .before .before .args .b)) (c .before .before .before .before .before .if1 .left) (c .before .before .before .before .loop .i) (c .before .before .before .loop-test .taken) ∙ rw (ne-eqb _ _ (c .if2 .taken)))
+returns-2 c =
+    let args = c .before .before .before .before .before .before .args in
+    let if1 = c .before .before .before .before .before .if1 in
+    let loop = c .before .before .before .before .loop in
+    sym (sym (loop .inv .1) ∙ bytes-more (now (args .a)) (now (args .b)) (if1 .left) (loop .i) (c .before .before .before .loop-test .taken) ∙ rw (ne-eqb _ _ (c .if2 .taken)))
 
 add-i : tie.Need-add-i Inv-loop μ-loop
 add-i c = omega (arith, c .before .before .before .loop-test .taken)
@@ -39,10 +45,16 @@ loop-less c = omega (arith, c .before .before .before .loop-test .taken)
 
 loop-again : tie.Need-loop-again Inv-loop μ-loop
 loop-again c =
-    (omega (arith, c .before .before .before .loop-test .taken), sym (bytes-more (now (c .before .before .before .before .before .before .args .a)) (now (c .before .before .before .before .before .before .args .b)) (c .before .before .before .before .before .if1 .left) (c .before .before .before .before .loop .i) (c .before .before .before .loop-test .taken) ∙ rw (eq-eqb _ _ (c .if2 .left))) ∙ c .before .before .before .before .loop .inv .1)
+    let args = c .before .before .before .before .before .before .args in
+    let if1 = c .before .before .before .before .before .if1 in
+    let loop = c .before .before .before .before .loop in
+    let loop-test = c .before .before .before .loop-test in
+    (omega (arith, loop-test .taken), sym (bytes-more (now (args .a)) (now (args .b)) (if1 .left) (loop .i) (loop-test .taken) ∙ rw (eq-eqb _ _ (c .if2 .left))) ∙ loop .inv .1)
 
 returns-3 : tie.Need-returns-3 Inv-loop μ-loop
-returns-3 c = sym (sym (c .before .loop .inv .1) ∙ bytes-none (now (c .before .before .before .args .a)) (now (c .before .before .before .args .b)) (c .before .before .if1 .left) (c .before .loop .i) (omega (arith, c .loop-test .left)))
+returns-3 c =
+    let args = c .before .before .before .args in
+    sym (sym (c .before .loop .inv .1) ∙ bytes-none (now (args .a)) (now (args .b)) (c .before .before .if1 .left) (c .before .loop .i) (omega (arith, c .loop-test .left)))
 
 pub same-bytes-spec : {M : Type 1} → statement M
 same-bytes-spec =

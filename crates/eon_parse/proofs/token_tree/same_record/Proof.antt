@@ -13,7 +13,9 @@ word-requires-2 : tie.Need-word-requires-2
 word-requires-2 c κs = search needs
 
 returns : tie.Need-returns
-returns c = kinds-differ (now (c .before .before .before .before .before .before .before .args .text-a)) (recordOf (now (c .before .before .before .before .before .before .before .args .table-a)) (c .before .before .before .before .before .before .before .args .i)) (now (c .before .before .before .before .before .before .before .args .text-b)) (recordOf (now (c .before .before .before .before .before .before .before .args .table-b)) (c .before .before .before .before .before .before .before .args .j)) (λ e. c .if1 .taken (c .before .before .word .ensures ∙ e ∙ sym (c .before .word2 .ensures)))
+returns c =
+    let args = c .before .before .before .before .before .before .before .args in
+    kinds-differ (now (args .text-a)) (recordOf (now (args .table-a)) (args .i)) (now (args .text-b)) (recordOf (now (args .table-b)) (args .j)) (λ e. c .if1 .taken (c .before .before .word .ensures ∙ e ∙ sym (c .before .word2 .ensures)))
 
 word-requires-3 : tie.Need-word-requires-3
 word-requires-3 c κs = search needs
@@ -22,13 +24,22 @@ word-requires-4 : tie.Need-word-requires-4
 word-requires-4 c κs = search needs
 
 returns-2 : tie.Need-returns-2
-returns-2 c = sizes-differ (now (c .before .before .before .before .before .before .before .before .before .before .args .text-a)) (recordOf (now (c .before .before .before .before .before .before .before .before .before .before .args .table-a)) (c .before .before .before .before .before .before .before .before .before .before .args .i)) (now (c .before .before .before .before .before .before .before .before .before .before .args .text-b)) (recordOf (now (c .before .before .before .before .before .before .before .before .before .before .args .table-b)) (c .before .before .before .before .before .before .before .before .before .before .args .j)) (sym (c .before .before .before .before .before .word .ensures) ∙ c .before .before .before .if1 .left ∙ c .before .before .before .before .word2 .ensures) (λ e. c .if2 .taken (c .before .before .word3 .ensures ∙ e ∙ sym (c .before .word4 .ensures)))
+returns-2 c =
+    let args = c .before .before .before .before .before .before .before .before .before .before .args in
+    let word = c .before .before .before .before .before .word in
+    let word2 = c .before .before .before .before .word2 in
+    sizes-differ (now (args .text-a)) (recordOf (now (args .table-a)) (args .i)) (now (args .text-b)) (recordOf (now (args .table-b)) (args .j)) (sym (word .ensures) ∙ c .before .before .before .if1 .left ∙ word2 .ensures) (λ e. c .if2 .taken (c .before .before .word3 .ensures ∙ e ∙ sym (c .before .word4 .ensures)))
 
 same-text-requires : tie.Need-same-text-requires
 same-text-requires c κs = search needs
 
 returns-3 : tie.Need-returns-3
-returns-3 c = texts-say (now (c .before .before .before .before .before .before .before .before .before .before .before .args .text-a)) (recordOf (now (c .before .before .before .before .before .before .before .before .before .before .before .args .table-a)) (c .before .before .before .before .before .before .before .before .before .before .before .args .i)) (now (c .before .before .before .before .before .before .before .before .before .before .before .args .text-b)) (recordOf (now (c .before .before .before .before .before .before .before .before .before .before .before .args .table-b)) (c .before .before .before .before .before .before .before .before .before .before .before .args .j)) (sym (c .before .before .before .before .before .before .word .ensures) ∙ c .before .before .before .before .if1 .left ∙ c .before .before .before .before .before .word2 .ensures) (sym (c .before .before .before .word3 .ensures) ∙ c .before .if2 .left ∙ c .before .before .word4 .ensures) (c .same-text .result) (c .same-text .ensures)
+returns-3 c =
+    let args = c .before .before .before .before .before .before .before .before .before .before .before .args in
+    let word = c .before .before .before .before .before .before .word in
+    let word2 = c .before .before .before .before .before .word2 in
+    let if1 = c .before .before .before .before .if1 in
+    texts-say (now (args .text-a)) (recordOf (now (args .table-a)) (args .i)) (now (args .text-b)) (recordOf (now (args .table-b)) (args .j)) (sym (word .ensures) ∙ if1 .left ∙ word2 .ensures) (sym (c .before .before .before .word3 .ensures) ∙ c .before .if2 .left ∙ c .before .before .word4 .ensures) (c .same-text .result) (c .same-text .ensures)
 
 pub same-record-spec : {M : Type 1} → statement M
 same-record-spec =

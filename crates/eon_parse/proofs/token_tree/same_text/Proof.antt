@@ -9,10 +9,16 @@ use Rattle.eon_parse.proofs.token_tree.same_text.Statement.{statement}
 use Rattle.eon_parse.proofs.token_tree.same_text.Tie as tie
 
 returns : tie.Need-returns
-returns c = list-textless (now (c .before .before .before .before .before .args .text-a)) (recordOf (now (c .before .before .before .before .before .args .table-a)) (c .before .before .before .before .before .args .i)) (now (c .before .before .before .before .before .args .text-b)) (recordOf (now (c .before .before .before .before .before .args .table-b)) (c .before .before .before .before .before .args .j)) (c .before .before .before .before .before .args .kind) (c .before .before .before .before .before .pre .2) (c .before .before .before .before .before .pre .3) (c .if1 .taken)
+returns c =
+    let args = c .before .before .before .before .before .args in
+    let pre = c .before .before .before .before .before .pre in
+    list-textless (now (args .text-a)) (recordOf (now (args .table-a)) (args .i)) (now (args .text-b)) (recordOf (now (args .table-b)) (args .j)) (args .kind) (pre .2) (pre .3) (c .if1 .taken)
 
 returns-2 : tie.Need-returns-2
-returns-2 c = map-textless (now (c .before .before .before .before .before .before .args .text-a)) (recordOf (now (c .before .before .before .before .before .before .args .table-a)) (c .before .before .before .before .before .before .args .i)) (now (c .before .before .before .before .before .before .args .text-b)) (recordOf (now (c .before .before .before .before .before .before .args .table-b)) (c .before .before .before .before .before .before .args .j)) (c .before .before .before .before .before .before .args .kind) (c .before .before .before .before .before .before .pre .2) (c .before .before .before .before .before .before .pre .3) (c .if2 .taken)
+returns-2 c =
+    let args = c .before .before .before .before .before .before .args in
+    let pre = c .before .before .before .before .before .before .pre in
+    map-textless (now (args .text-a)) (recordOf (now (args .table-a)) (args .i)) (now (args .text-b)) (recordOf (now (args .table-b)) (args .j)) (args .kind) (pre .2) (pre .3) (c .if2 .taken)
 
 word-requires : tie.Need-word-requires
 word-requires c κs = search needs
@@ -37,9 +43,16 @@ same-bytes-requires c κs = search needs
 
 returns-3 : tie.Need-returns-3
 returns-3 c =
-    texts-are (now (c .before .before .before .before .before .before .before .before .before .before .before .before .before .args .text-a)) (recordOf (now (c .before .before .before .before .before .before .before .before .before .before .before .before .before .args .table-a)) (c .before .before .before .before .before .before .before .before .before .before .before .before .before .args .i)) (now (c .before .before .before .before .before .before .before .before .before .before .before .before .before .args .text-b)) (recordOf (now (c .before .before .before .before .before .before .before .before .before .before .before .before .before .args .table-b)) (c .before .before .before .before .before .before .before .before .before .before .before .before .before .args .j)) (c .before .before .before .before .before .before .before .before .before .before .before .before .before .args .kind) (c .before .before .before .before .before .before .before .before .before .before .before .before .before .pre .2) (c .before .before .before .before .before .before .before .before .before .before .before .before .before .pre .3) (c .before .before .before .before .before .before .before .before .if1 .left) (c .before .before .before .before .before .before .before .if2 .left) _ _
-    (c .before .before .before .before .part .ensures ∙ ap₂ (λ (x y : ℕ). take (y - x) (drop x (now (c .before .before .before .before .before .before .before .before .before .before .before .before .before .args .text-a)))) (c .before .before .before .before .before .before .word .ensures) (c .before .before .before .before .before .word2 .ensures))
-    (c .before .part2 .ensures ∙ ap₂ (λ (x y : ℕ). take (y - x) (drop x (now (c .before .before .before .before .before .before .before .before .before .before .before .before .before .args .text-b)))) (c .before .before .before .word3 .ensures) (c .before .before .word4 .ensures))
+    let args = c .before .before .before .before .before .before .before .before .before .before .before .before .before .args in
+    let pre = c .before .before .before .before .before .before .before .before .before .before .before .before .before .pre in
+    let if1 = c .before .before .before .before .before .before .before .before .if1 in
+    let if2 = c .before .before .before .before .before .before .before .if2 in
+    let word = c .before .before .before .before .before .before .word in
+    let word2 = c .before .before .before .before .before .word2 in
+    let part = c .before .before .before .before .part in
+    texts-are (now (args .text-a)) (recordOf (now (args .table-a)) (args .i)) (now (args .text-b)) (recordOf (now (args .table-b)) (args .j)) (args .kind) (pre .2) (pre .3) (if1 .left) (if2 .left) _ _
+    (part .ensures ∙ ap₂ (λ (x y : ℕ). take (y - x) (drop x (now (args .text-a)))) (word .ensures) (word2 .ensures))
+    (c .before .part2 .ensures ∙ ap₂ (λ (x y : ℕ). take (y - x) (drop x (now (args .text-b)))) (c .before .before .before .word3 .ensures) (c .before .before .word4 .ensures))
     (c .same-bytes .result)
     (c .same-bytes .ensures)
 

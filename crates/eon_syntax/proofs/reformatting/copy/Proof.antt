@@ -49,9 +49,12 @@ loop-less c = omega arith
 -- src/reformatting.rt:18:5
 loop-again : tie.Need-loop-again Inv-loop μ-loop
 loop-again c =
-    let h : c .before .before .loop .i < length (c .before .before .before .args .to .now) = omega (arith, c .before .loop-test .taken, c .before .before .before .pre) in
-    let k : c .before .before .loop .i < length (c .before .before .before .args .from .now) = omega (arith, c .before .loop-test .taken, c .before .before .before .pre) in
-    (omega arith, rw (c .before .before .loop .inv .1) (copied-more _ _ _ h k), length-set (c .before .before .loop .to) (c .before .before .loop .i) (getD (c .before .before .before .args .from .now) (c .before .before .loop .i) 0) ∙ c .before .before .loop .inv .2)
+    let args = c .before .before .before .args in
+    let pre = c .before .before .before .pre in
+    let loop = c .before .before .loop in
+    let h : loop .i < length (args .to .now) = omega (arith, c .before .loop-test .taken, pre) in
+    let k : loop .i < length (args .from .now) = omega (arith, c .before .loop-test .taken, pre) in
+    (omega arith, rw (loop .inv .1) (copied-more _ _ _ h k), length-set (loop .to) (loop .i) (getD (args .from .now) (loop .i) 0) ∙ loop .inv .2)
 
 -- src/reformatting.rt:13:1
 same-length : tie.Need-same-length Inv-loop μ-loop

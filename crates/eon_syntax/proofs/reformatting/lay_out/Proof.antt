@@ -18,7 +18,10 @@ new-requires c κs = search needs
 
 -- src/reformatting.rt:37:9
 returns : tie.Need-returns
-returns c = table-short (c .before .before .before .before .before .before .args .text .now) (c .before .before .before .before .before .before .args .work .now) (c .before .before .before .before .before .before .args .table .now) (c .before .before .before .before .before .before .args .options) (c .before .before .before .before .before .before .args .out .now) (c .before .before .before .before .before .before .args .n) (c .before .before .before .before .before .before .pre .0) (c .before .before .before .before .before .before .pre .1) (c .new .result) (c .new .ensures) (omega (arith, c .before .if1 .taken))
+returns c =
+    let args = c .before .before .before .before .before .before .args in
+    let pre = c .before .before .before .before .before .before .pre in
+    table-short (args .text .now) (args .work .now) (args .table .now) (args .options) (args .out .now) (args .n) (pre .0) (pre .1) (c .new .result) (c .new .ensures) (omega (arith, c .before .if1 .taken))
 
 -- src/reformatting.rt:39:11
 format-finished-requires : tie.Need-format-finished-requires
@@ -38,7 +41,11 @@ mul-copy c = search needs
 
 -- src/reformatting.rt:42:13
 copy-requires : tie.Need-copy-requires
-copy-requires c κs = (words-within (c .before .before .before .before .before .before .before .before .before .before .before .before .before .args .text .now) (c .before .before .before .before .before .before .before .before .before .before .before .before .before .args .work .now) (c .before .before .before .before .before .before .before .before .before .before .before .before .before .args .table .now) (c .before .before .before .before .before .before .before .before .before .before .before .before .before .args .options) (c .before .before .before .before .before .before .before .before .before .before .before .before .before .args .out .now) (c .before .before .before .before .before .before .before .before .before .before .before .before .before .args .n) (c .before .before .before .before .before .before .before .before .before .before .before .before .before .pre .0) (c .before .before .before .before .before .before .before .before .before .before .before .before .before .pre .1), omega (arith, c .before .before .before .before .before .before .before .before .if1 .left))
+copy-requires c κs =
+    let args = c .before .before .before .before .before .before .before .before .before .before .before .before .before .args in
+    let pre = c .before .before .before .before .before .before .before .before .before .before .before .before .before .pre in
+    let if1 = c .before .before .before .before .before .before .before .before .if1 in
+    (words-within (args .text .now) (args .work .now) (args .table .now) (args .options) (args .out .now) (args .n) (pre .0) (pre .1), omega (arith, if1 .left))
 
 -- src/reformatting.rt:25:1
 same-length : tie.Need-same-length
@@ -47,8 +54,12 @@ same-length c = search needs
 -- src/reformatting.rt:25:1
 returns-2 : tie.Need-returns-2
 returns-2 c =
-    let h : _≤_ (5 * c .before .before .before .before .before .before .before .before .before .before .before .before .args .n) (length (c .before .before .before .before .before .before .before .before .before .before .before .before .args .table .now)) = omega (arith, c .before .before .before .before .before .before .before .if1 .left) in
-    out-short (c .before .before .before .before .before .before .before .before .before .before .before .before .args .text .now) (c .before .before .before .before .before .before .before .before .before .before .before .before .args .work .now) (c .before .before .before .before .before .before .before .before .before .before .before .before .args .table .now) (c .before .before .before .before .before .before .before .before .before .before .before .before .args .options) (c .before .before .before .before .before .before .before .before .before .before .before .before .args .out .now) (c .before .before .before .before .before .before .before .before .before .before .before .before .args .n) (c .before .before .before .before .before .before .before .before .before .before .before .before .pre .0) (c .before .before .before .before .before .before .before .before .before .before .before .before .pre .1) (c .before .before .before .before .before .format-finished .result) _ (c .before .before .before .before .before .format-finished .last .1 .1 .1 .1 .0) h (c .before .r .given .1) (c .before .before .before .before .before .format-finished .ensures)
+    let args = c .before .before .before .before .before .before .before .before .before .before .before .before .args in
+    let pre = c .before .before .before .before .before .before .before .before .before .before .before .before .pre in
+    let if1 = c .before .before .before .before .before .before .before .if1 in
+    let format-finished = c .before .before .before .before .before .format-finished in
+    let h : _≤_ (5 * args .n) (length (args .table .now)) = omega (arith, if1 .left) in
+    out-short (args .text .now) (args .work .now) (args .table .now) (args .options) (args .out .now) (args .n) (pre .0) (pre .1) (format-finished .result) _ (format-finished .last .1 .1 .1 .1 .0) h (c .before .r .given .1) (format-finished .ensures)
 
 -- src/reformatting.rt:25:1
 same-length-2 : tie.Need-same-length-2
@@ -61,8 +72,14 @@ same-length-3 c = search needs
 -- src/reformatting.rt:25:1
 returns-3 : tie.Need-returns-3
 returns-3 c =
-    let h : _≤_ (5 * c .before .before .before .before .before .before .before .before .before .before .before .before .before .before .before .before .args .n) (length (c .before .before .before .before .before .before .before .before .before .before .before .before .before .before .before .before .args .table .now)) = omega (arith, c .before .before .before .before .before .before .before .before .before .before .before .if1 .left) in
-    both-written (c .before .before .before .before .before .before .before .before .before .before .before .before .before .before .before .before .args .text .now) (c .before .before .before .before .before .before .before .before .before .before .before .before .before .before .before .before .args .work .now) (c .before .before .before .before .before .before .before .before .before .before .before .before .before .before .before .before .args .table .now) (c .before .before .before .before .before .before .before .before .before .before .before .before .before .before .before .before .args .options) (c .before .before .before .before .before .before .before .before .before .before .before .before .before .before .before .before .args .out .now) (c .before .before .before .before .before .before .before .before .before .before .before .before .before .before .before .before .args .n) (c .before .before .before .before .before .before .before .before .before .before .before .before .before .before .before .before .pre .0) (c .before .before .before .before .before .before .before .before .before .before .before .before .before .before .before .before .pre .1) (c .before .before .before .before .before .before .before .before .before .format-finished .result) _ (c .before .before .before .before .before .before .before .before .before .format-finished .last .1 .1 .1 .1 .0) (c .before .before .copy .last .1 .1 .0) h (c .before .before .before .before .before .bytes .given .1) (c .before .before .before .before .before .before .before .before .before .format-finished .ensures) (c .before .before .copy .ensures)
+    let args = c .before .before .before .before .before .before .before .before .before .before .before .before .before .before .before .before .args in
+    let pre = c .before .before .before .before .before .before .before .before .before .before .before .before .before .before .before .before .pre in
+    let if1 = c .before .before .before .before .before .before .before .before .before .before .before .if1 in
+    let format-finished = c .before .before .before .before .before .before .before .before .before .format-finished in
+    let bytes = c .before .before .before .before .before .bytes in
+    let copy = c .before .before .copy in
+    let h : _≤_ (5 * args .n) (length (args .table .now)) = omega (arith, if1 .left) in
+    both-written (args .text .now) (args .work .now) (args .table .now) (args .options) (args .out .now) (args .n) (pre .0) (pre .1) (format-finished .result) _ (format-finished .last .1 .1 .1 .1 .0) (copy .last .1 .1 .0) h (bytes .given .1) (format-finished .ensures) (copy .ensures)
 
 pub lay-out-spec : {M : Type 1} → statement M
 lay-out-spec =
