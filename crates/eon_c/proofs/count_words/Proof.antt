@@ -25,11 +25,15 @@ refused-words-requires c κs = search needs
 
 -- src/lib.rt:29:1
 returns : tie.Need-returns
-returns c = counted _ (c .before .before .before .before .args .a) _ (c .before .before .a .given .1) (c .done-words .ensures)
+returns c =
+    let args = c .before .before .before .before .args in
+    counted _ (args .a) _ (c .before .before .a .given .1) (c .done-words .ensures)
 
 -- src/lib.rt:29:1
 returns-2 : tie.Need-returns-2
-returns-2 c = count-refused _ (c .before .before .before .before .args .a) _ (c .before .before .a2 .given .1) (c .refused-words .ensures)
+returns-2 c =
+    let args = c .before .before .before .before .args in
+    count-refused _ (args .a) _ (c .before .before .a2 .given .1) (c .refused-words .ensures)
 
 pub count-words-spec : {M : Type 1} → statement M
 count-words-spec =

@@ -30,7 +30,11 @@ same-length c = search needs
 
 -- src/lib.rt:89:1
 returns : tie.Need-returns
-returns c = answered countWords _ (outcomeOf (c .before .before .before .format .result)) _ _ (c .count-words .ensures) (c .before .before .before .format .ensures ∙ ap (λ (o : FormatOptions). formatCall (c .before .before .before .before .before .before .before .before .before .before .before .before .before .args .text .now) (c .before .before .before .before .before .before .before .before .before .before .before .before .before .args .table .now) o (c .before .before .before .before .before .before .before .before .before .before .before .before .before .args .out .now)) (c .before .before .before .before .before .options-of .ensures))
+returns c =
+    let args = c .before .before .before .before .before .before .before .before .before .before .before .before .before .args in
+    let options-of = c .before .before .before .before .before .options-of in
+    let format = c .before .before .before .format in
+    answered countWords _ (outcomeOf (format .result)) _ _ (c .count-words .ensures) (format .ensures ∙ ap (λ (o : FormatOptions). formatCall (args .text .now) (args .table .now) o (args .out .now)) (options-of .ensures))
 
 pub eon-format-spec : {M : Type 1} → statement M
 eon-format-spec =

@@ -23,7 +23,9 @@ same-length c = search needs
 
 -- src/lib.rt:81:1
 returns : tie.Need-returns
-returns c = answered countWords _ (outcomeOf (c .before .before .before .read .result)) _ _ (c .count-words .ensures) (c .before .before .before .read .ensures)
+returns c =
+    let read = c .before .before .before .read in
+    answered countWords _ (outcomeOf (read .result)) _ _ (c .count-words .ensures) (read .ensures)
 
 pub eon-read-spec : {M : Type 1} → statement M
 eon-read-spec = tie.close (tie.spec read-requires count-words-requires same-length returns)

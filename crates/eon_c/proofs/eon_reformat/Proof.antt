@@ -35,8 +35,11 @@ same-length-2 c = search needs
 -- src/lib.rt:122:1
 returns : tie.Need-returns
 returns c =
-    answered-both countWords _ (outcomeOf (c .before .before .before .before .before .reformat .result)) _ _ _ (c .count-words .ensures)
-    (c .before .before .before .before .before .reformat .ensures ∙ ap (λ (o : FormatOptions). reformatCall (c .before .before .before .before .before .before .before .before .before .before .before .before .before .before .before .before .args .text .now) (c .before .before .before .before .before .before .before .before .before .before .before .before .before .before .before .before .args .table .now) o (c .before .before .before .before .before .before .before .before .before .before .before .before .before .before .before .before .args .out .now)) (c .before .before .before .before .before .before .before .before .options-of .ensures))
+    let args = c .before .before .before .before .before .before .before .before .before .before .before .before .before .before .before .before .args in
+    let options-of = c .before .before .before .before .before .before .before .before .options-of in
+    let reformat = c .before .before .before .before .before .reformat in
+    answered-both countWords _ (outcomeOf (reformat .result)) _ _ _ (c .count-words .ensures)
+    (reformat .ensures ∙ ap (λ (o : FormatOptions). reformatCall (args .text .now) (args .table .now) o (args .out .now)) (options-of .ensures))
 
 pub eon-reformat-spec : {M : Type 1} → statement M
 eon-reformat-spec =

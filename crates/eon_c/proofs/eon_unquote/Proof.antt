@@ -23,7 +23,9 @@ same-length c = search needs
 
 -- src/lib.rt:123:1
 returns : tie.Need-returns
-returns c = answered partWords _ (unquotedOutcome (c .before .before .before .unescape-and-unquote .result)) _ _ (c .part-words .ensures) (c .before .before .before .unescape-and-unquote .ensures)
+returns c =
+    let unescape-and-unquote = c .before .before .before .unescape-and-unquote in
+    answered partWords _ (unquotedOutcome (unescape-and-unquote .result)) _ _ (c .part-words .ensures) (unescape-and-unquote .ensures)
 
 pub eon-unquote-spec : {M : Type 1} → statement M
 eon-unquote-spec =

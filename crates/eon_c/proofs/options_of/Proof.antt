@@ -25,7 +25,8 @@ new-requires-4 c κs = search needs
 -- src/lib.rt:59:1
 returns : tie.Need-returns
 returns c =
-    options-are _ _ _ _ _ (c .before .before .before .before .before .before .before .before .args .indentation .now) (c .before .before .before .before .before .before .before .before .args .newline .now) (c .before .before .before .before .before .before .before .before .args .space .now) (c .before .before .before .before .before .before .before .before .args .separator .now)
+    let args = c .before .before .before .before .before .before .before .before .args in
+    options-are _ _ _ _ _ (args .indentation .now) (args .newline .now) (args .space .now) (args .separator .now)
     (c .before .before .before .new .ensures) (c .before .before .new2 .ensures) (c .before .new3 .ensures) (c .new4 .ensures)
 
 pub options-of-spec : {M : Type 1} → statement M

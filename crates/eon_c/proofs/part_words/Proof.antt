@@ -30,11 +30,15 @@ refused-words-requires c κs = search needs
 
 -- src/lib.rt:56:1
 returns : tie.Need-returns
-returns c = parted _ (c .before .before .before .before .before .args .u) _ _ _ _ (c .before .before .before .u .given .1) (c .before .slice-number .ensures) (c .done-words .ensures)
+returns c =
+    let args = c .before .before .before .before .before .args in
+    parted _ (args .u) _ _ _ _ (c .before .before .before .u .given .1) (c .before .slice-number .ensures) (c .done-words .ensures)
 
 -- src/lib.rt:56:1
 returns-2 : tie.Need-returns-2
-returns-2 c = part-refused _ (c .before .before .before .before .args .u) _ (c .before .before .u2 .given .1) (c .refused-words .ensures)
+returns-2 c =
+    let args = c .before .before .before .before .args in
+    part-refused _ (args .u) _ (c .before .before .u2 .given .1) (c .refused-words .ensures)
 
 pub part-words-spec : {M : Type 1} → statement M
 part-words-spec =

@@ -29,11 +29,15 @@ refused-words-requires c κs = search needs
 
 -- src/lib.rt:38:1
 returns : tie.Need-returns
-returns c = told _ (c .before .before .before .before .args .c) _ (c .before .before .c .given .1) (c .done-words .ensures)
+returns c =
+    let args = c .before .before .before .before .args in
+    told _ (args .c) _ (c .before .before .c .given .1) (c .done-words .ensures)
 
 -- src/lib.rt:38:1
 returns-2 : tie.Need-returns-2
-returns-2 c = truth-refused _ (c .before .before .before .before .args .c) _ (c .before .before .c2 .given .1) (c .refused-words .ensures)
+returns-2 c =
+    let args = c .before .before .before .before .args in
+    truth-refused _ (args .c) _ (c .before .before .c2 .given .1) (c .refused-words .ensures)
 
 pub truth-words-spec : {M : Type 1} → statement M
 truth-words-spec =

@@ -13,7 +13,9 @@ char-len-requires : tie.Need-char-len-requires
 char-len-requires c κs = search needs
 
 returns : tie.Need-returns
-returns c = no-char (c .before .before .before .args .text .now) (c .before .before .before .args .at) (c .before .char-len .result) (c .if1 .taken) (c .before .char-len .ensures)
+returns c =
+    let args = c .before .before .before .args in
+    no-char (args .text .now) (args .at) (c .before .char-len .result) (c .if1 .taken) (c .before .char-len .ensures)
 
 shared-slice-read-b : tie.Need-shared-slice-read-b
 shared-slice-read-b c = search needs
@@ -22,7 +24,10 @@ above-requires : tie.Need-above-requires
 above-requires c κs = search needs
 
 returns-2 : tie.Need-returns-2
-returns-2 c = code-one (c .before .before .before .before .before .before .args .text .now) (c .before .before .before .before .before .before .args .at) (c .before .before .before .before .char-len .result) (c .before .if2 .taken) (c .before .before .before .before .char-len .ensures) (omega (arith, c .before .before .shared-slice-known2 .given (c .before .before .before .before .before .before .args .at))) _ (c .above .ensures)
+returns-2 c =
+    let args = c .before .before .before .before .before .before .args in
+    let char-len = c .before .before .before .before .char-len in
+    code-one (args .text .now) (args .at) (char-len .result) (c .before .if2 .taken) (char-len .ensures) (omega (arith, c .before .before .shared-slice-known2 .given (args .at))) _ (c .above .ensures)
 
 above-requires-2 : tie.Need-above-requires-2
 above-requires-2 c κs = search needs
@@ -34,10 +39,17 @@ shared-slice-read-with-byte : tie.Need-shared-slice-read-with-byte
 shared-slice-read-with-byte c = search needs
 
 with-byte-requires : tie.Need-with-byte-requires
-with-byte-requires c κs = omega (arith, c .before .before .before .before .shared-slice-known2 .given (c .before .before .before .before .before .before .before .before .args .at))
+with-byte-requires c κs =
+    let args = c .before .before .before .before .before .before .before .before .args in
+    let shared-slice-known2 = c .before .before .before .before .shared-slice-known2 in
+    omega (arith, shared-slice-known2 .given (args .at))
 
 returns-3 : tie.Need-returns-3
-returns-3 c = code-two (c .before .before .before .before .before .before .before .before .before .args .text .now) (c .before .before .before .before .before .before .before .before .before .args .at) (c .before .before .before .before .before .before .before .char-len .result) (c .before .before .before .if3 .taken) (c .before .before .before .before .before .before .before .char-len .ensures) (omega (arith, c .before .before .before .before .before .shared-slice-known2 .given (c .before .before .before .before .before .before .before .before .before .args .at))) _ (c .with-byte .ensures .0 ∙ ap (λ (x : ℕ). x * 64 + (getD (c .before .before .before .before .before .before .before .before .before .args .text .now) (c .before .before .before .before .before .before .before .before .before .args .at + 1) 0 - 0x80)) (c .before .before .above2 .ensures)) (omega arith)
+returns-3 c =
+    let args = c .before .before .before .before .before .before .before .before .before .args in
+    let char-len = c .before .before .before .before .before .before .before .char-len in
+    let shared-slice-known2 = c .before .before .before .before .before .shared-slice-known2 in
+    code-two (args .text .now) (args .at) (char-len .result) (c .before .before .before .if3 .taken) (char-len .ensures) (omega (arith, shared-slice-known2 .given (args .at))) _ (c .with-byte .ensures .0 ∙ ap (λ (x : ℕ). x * 64 + (getD (args .text .now) (args .at + 1) 0 - 0x80)) (c .before .before .above2 .ensures)) (omega arith)
 
 above-requires-3 : tie.Need-above-requires-3
 above-requires-3 c κs = search needs
@@ -49,7 +61,10 @@ shared-slice-read-with-byte-2 : tie.Need-shared-slice-read-with-byte-2
 shared-slice-read-with-byte-2 c = search needs
 
 with-byte-requires-2 : tie.Need-with-byte-requires-2
-with-byte-requires-2 c κs = omega (arith, c .before .before .before .before .before .shared-slice-known2 .given (c .before .before .before .before .before .before .before .before .before .args .at))
+with-byte-requires-2 c κs =
+    let args = c .before .before .before .before .before .before .before .before .before .args in
+    let shared-slice-known2 = c .before .before .before .before .before .shared-slice-known2 in
+    omega (arith, shared-slice-known2 .given (args .at))
 
 add-with-byte-3 : tie.Need-add-with-byte-3
 add-with-byte-3 c = search needs
@@ -58,10 +73,20 @@ shared-slice-read-with-byte-3 : tie.Need-shared-slice-read-with-byte-3
 shared-slice-read-with-byte-3 c = search needs
 
 with-byte-requires-3 : tie.Need-with-byte-requires-3
-with-byte-requires-3 c κs = omega (arith, c .before .before .before .before .before .before .before .shared-slice-known2 .given (c .before .before .before .before .before .before .before .before .before .before .before .args .at))
+with-byte-requires-3 c κs =
+    let args = c .before .before .before .before .before .before .before .before .before .before .before .args in
+    let shared-slice-known2 = c .before .before .before .before .before .before .before .shared-slice-known2 in
+    omega (arith, shared-slice-known2 .given (args .at))
 
 returns-4 : tie.Need-returns-4
-returns-4 c = code-three (c .before .before .before .before .before .before .before .before .before .before .before .before .args .text .now) (c .before .before .before .before .before .before .before .before .before .before .before .before .args .at) (c .before .before .before .before .before .before .before .before .before .before .char-len .result) (c .before .before .before .before .before .if4 .taken) (c .before .before .before .before .before .before .before .before .before .before .char-len .ensures) (omega (arith, c .before .before .before .before .before .before .before .before .shared-slice-known2 .given (c .before .before .before .before .before .before .before .before .before .before .before .before .args .at))) (c .before .before .with-byte2 .result) (c .with-byte3 .result) (c .before .before .with-byte2 .ensures .0 ∙ ap (λ (x : ℕ). x * 64 + (getD (c .before .before .before .before .before .before .before .before .before .before .before .before .args .text .now) (c .before .before .before .before .before .before .before .before .before .before .before .before .args .at + 1) 0 - 0x80)) (c .before .before .before .before .above3 .ensures)) (omega arith) (c .with-byte3 .ensures .0) (c .with-byte3 .ensures .1)
+returns-4 c =
+    let args = c .before .before .before .before .before .before .before .before .before .before .before .before .args in
+    let char-len = c .before .before .before .before .before .before .before .before .before .before .char-len in
+    let shared-slice-known2 = c .before .before .before .before .before .before .before .before .shared-slice-known2 in
+    let if4 = c .before .before .before .before .before .if4 in
+    let above3 = c .before .before .before .before .above3 in
+    let with-byte2 = c .before .before .with-byte2 in
+    code-three (args .text .now) (args .at) (char-len .result) (if4 .taken) (char-len .ensures) (omega (arith, shared-slice-known2 .given (args .at))) (with-byte2 .result) (c .with-byte3 .result) (with-byte2 .ensures .0 ∙ ap (λ (x : ℕ). x * 64 + (getD (args .text .now) (args .at + 1) 0 - 0x80)) (above3 .ensures)) (omega arith) (c .with-byte3 .ensures .0) (c .with-byte3 .ensures .1)
 
 above-requires-4 : tie.Need-above-requires-4
 above-requires-4 c κs = search needs
@@ -73,7 +98,10 @@ shared-slice-read-with-byte-4 : tie.Need-shared-slice-read-with-byte-4
 shared-slice-read-with-byte-4 c = search needs
 
 with-byte-requires-4 : tie.Need-with-byte-requires-4
-with-byte-requires-4 c κs = omega (arith, c .before .before .before .before .before .shared-slice-known2 .given (c .before .before .before .before .before .before .before .before .before .args .at))
+with-byte-requires-4 c κs =
+    let args = c .before .before .before .before .before .before .before .before .before .args in
+    let shared-slice-known2 = c .before .before .before .before .before .shared-slice-known2 in
+    omega (arith, shared-slice-known2 .given (args .at))
 
 add-with-byte-5 : tie.Need-add-with-byte-5
 add-with-byte-5 c = search needs
@@ -82,7 +110,10 @@ shared-slice-read-with-byte-5 : tie.Need-shared-slice-read-with-byte-5
 shared-slice-read-with-byte-5 c = search needs
 
 with-byte-requires-5 : tie.Need-with-byte-requires-5
-with-byte-requires-5 c κs = omega (arith, c .before .before .before .before .before .before .before .shared-slice-known2 .given (c .before .before .before .before .before .before .before .before .before .before .before .args .at))
+with-byte-requires-5 c κs =
+    let args = c .before .before .before .before .before .before .before .before .before .before .before .args in
+    let shared-slice-known2 = c .before .before .before .before .before .before .before .shared-slice-known2 in
+    omega (arith, shared-slice-known2 .given (args .at))
 
 add-with-byte-6 : tie.Need-add-with-byte-6
 add-with-byte-6 c = search needs
@@ -91,10 +122,19 @@ shared-slice-read-with-byte-6 : tie.Need-shared-slice-read-with-byte-6
 shared-slice-read-with-byte-6 c = search needs
 
 with-byte-requires-6 : tie.Need-with-byte-requires-6
-with-byte-requires-6 c κs = omega (arith, c .before .before .before .before .before .before .before .before .before .shared-slice-known2 .given (c .before .before .before .before .before .before .before .before .before .before .before .before .before .args .at))
+with-byte-requires-6 c κs =
+    let args = c .before .before .before .before .before .before .before .before .before .before .before .before .before .args in
+    let shared-slice-known2 = c .before .before .before .before .before .before .before .before .before .shared-slice-known2 in
+    omega (arith, shared-slice-known2 .given (args .at))
 
 returns-5 : tie.Need-returns-5
-returns-5 c = code-four (c .before .before .before .before .before .before .before .before .before .before .before .before .before .before .args .text .now) (c .before .before .before .before .before .before .before .before .before .before .before .before .before .before .args .at) (c .before .before .before .before .before .before .before .before .before .before .before .before .char-len .result) (omega arith) (c .before .before .before .before .before .before .before .before .before .before .before .before .char-len .ensures) (c .before .before .before .before .with-byte4 .result) (c .before .before .with-byte5 .result) (c .with-byte6 .result) (c .before .before .before .before .with-byte4 .ensures .0 ∙ ap (λ (x : ℕ). x * 64 + (getD (c .before .before .before .before .before .before .before .before .before .before .before .before .before .before .args .text .now) (c .before .before .before .before .before .before .before .before .before .before .before .before .before .before .args .at + 1) 0 - 0x80)) (c .before .before .before .before .before .before .above4 .ensures)) (omega arith) (c .before .before .with-byte5 .ensures .0) (c .before .before .with-byte5 .ensures .1) (c .with-byte6 .ensures .0) (c .with-byte6 .ensures .1)
+returns-5 c =
+    let args = c .before .before .before .before .before .before .before .before .before .before .before .before .before .before .args in
+    let char-len = c .before .before .before .before .before .before .before .before .before .before .before .before .char-len in
+    let above4 = c .before .before .before .before .before .before .above4 in
+    let with-byte4 = c .before .before .before .before .with-byte4 in
+    let with-byte5 = c .before .before .with-byte5 in
+    code-four (args .text .now) (args .at) (char-len .result) (omega arith) (char-len .ensures) (with-byte4 .result) (with-byte5 .result) (c .with-byte6 .result) (with-byte4 .ensures .0 ∙ ap (λ (x : ℕ). x * 64 + (getD (args .text .now) (args .at + 1) 0 - 0x80)) (above4 .ensures)) (omega arith) (with-byte5 .ensures .0) (with-byte5 .ensures .1) (c .with-byte6 .ensures .0) (c .with-byte6 .ensures .1)
 
 pub char-at-spec : {M : Type 1} → statement M
 char-at-spec =

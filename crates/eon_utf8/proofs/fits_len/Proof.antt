@@ -13,7 +13,9 @@ sub-if1 : tie.Need-sub-if1
 sub-if1 c = search needs
 
 returns : tie.Need-returns
-returns c = (short (c .before .before .args .text .now) (c .before .before .args .at) (c .before .before .args .lo) (c .before .before .args .hi) (c .before .before .args .n) (omega arith) (c .if1 .taken), omega arith)
+returns c =
+    let args = c .before .before .args in
+    (short (args .text .now) (args .at) (args .lo) (args .hi) (args .n) (omega arith) (c .if1 .taken), omega arith)
 
 shared-slice-read-in-range : tie.Need-shared-slice-read-in-range
 shared-slice-read-in-range c = search needs
@@ -22,10 +24,15 @@ in-range-requires : tie.Need-in-range-requires
 in-range-requires c κs = search needs
 
 returns-2 : tie.Need-returns-2
-returns-2 c = (out-one (c .before .before .before .before .before .args .text .now) (c .before .before .before .before .before .args .at) (c .before .before .before .before .before .args .lo) (c .before .before .before .before .before .args .hi) (c .before .before .before .before .before .args .n) (omega arith) (sym (c .before .in-range .ensures) ∙ not-true (c .before .in-range .result) (c .if2 .taken)), omega arith)
+returns-2 c =
+    let args = c .before .before .before .before .before .args in
+    (out-one (args .text .now) (args .at) (args .lo) (args .hi) (args .n) (omega arith) (sym (c .before .in-range .ensures) ∙ not-true (c .before .in-range .result) (c .if2 .taken)), omega arith)
 
 returns-3 : tie.Need-returns-3
-returns-3 c = (in-one (c .before .before .before .before .before .before .args .text .now) (c .before .before .before .before .before .before .args .at) (c .before .before .before .before .before .before .args .lo) (c .before .before .before .before .before .before .args .hi) (c .before .before .before .before .before .before .args .n) (omega arith) (sym (c .before .before .in-range .ensures) ∙ not-false (c .before .before .in-range .result) (c .before .if2 .left)) (c .if3 .taken), omega arith)
+returns-3 c =
+    let args = c .before .before .before .before .before .before .args in
+    let in-range = c .before .before .in-range in
+    (in-one (args .text .now) (args .at) (args .lo) (args .hi) (args .n) (omega arith) (sym (in-range .ensures) ∙ not-false (in-range .result) (c .before .if2 .left)) (c .if3 .taken), omega arith)
 
 add-in-range : tie.Need-add-in-range
 add-in-range c = search needs
@@ -37,10 +44,19 @@ in-range-requires-2 : tie.Need-in-range-requires-2
 in-range-requires-2 c κs = search needs
 
 returns-4 : tie.Need-returns-4
-returns-4 c = (out-two (c .before .before .before .before .before .before .before .before .before .args .text .now) (c .before .before .before .before .before .before .before .before .before .args .at) (c .before .before .before .before .before .before .before .before .before .args .lo) (c .before .before .before .before .before .before .before .before .before .args .hi) (c .before .before .before .before .before .before .before .before .before .args .n) (omega arith) (omega arith) (sym (c .before .before .before .before .before .in-range .ensures) ∙ not-false (c .before .before .before .before .before .in-range .result) (c .before .before .before .before .if2 .left)) (sym (c .before .in-range2 .ensures) ∙ not-true (c .before .in-range2 .result) (c .if4 .taken)), omega arith)
+returns-4 c =
+    let args = c .before .before .before .before .before .before .before .before .before .args in
+    let in-range = c .before .before .before .before .before .in-range in
+    let if2 = c .before .before .before .before .if2 in
+    (out-two (args .text .now) (args .at) (args .lo) (args .hi) (args .n) (omega arith) (omega arith) (sym (in-range .ensures) ∙ not-false (in-range .result) (if2 .left)) (sym (c .before .in-range2 .ensures) ∙ not-true (c .before .in-range2 .result) (c .if4 .taken)), omega arith)
 
 returns-5 : tie.Need-returns-5
-returns-5 c = (in-two (c .before .before .before .before .before .before .before .before .before .before .args .text .now) (c .before .before .before .before .before .before .before .before .before .before .args .at) (c .before .before .before .before .before .before .before .before .before .before .args .lo) (c .before .before .before .before .before .before .before .before .before .before .args .hi) (c .before .before .before .before .before .before .before .before .before .before .args .n) (c .if5 .taken) (omega arith) (sym (c .before .before .before .before .before .before .in-range .ensures) ∙ not-false (c .before .before .before .before .before .before .in-range .result) (c .before .before .before .before .before .if2 .left)) (sym (c .before .before .in-range2 .ensures) ∙ not-false (c .before .before .in-range2 .result) (c .before .if4 .left)), omega arith)
+returns-5 c =
+    let args = c .before .before .before .before .before .before .before .before .before .before .args in
+    let in-range = c .before .before .before .before .before .before .in-range in
+    let if2 = c .before .before .before .before .before .if2 in
+    let in-range2 = c .before .before .in-range2 in
+    (in-two (args .text .now) (args .at) (args .lo) (args .hi) (args .n) (c .if5 .taken) (omega arith) (sym (in-range .ensures) ∙ not-false (in-range .result) (if2 .left)) (sym (in-range2 .ensures) ∙ not-false (in-range2 .result) (c .before .if4 .left)), omega arith)
 
 add-in-range-2 : tie.Need-add-in-range-2
 add-in-range-2 c = search needs
@@ -52,10 +68,22 @@ in-range-requires-3 : tie.Need-in-range-requires-3
 in-range-requires-3 c κs = search needs
 
 returns-6 : tie.Need-returns-6
-returns-6 c = (out-three (c .before .before .before .before .before .before .before .before .before .before .before .before .before .args .text .now) (c .before .before .before .before .before .before .before .before .before .before .before .before .before .args .at) (c .before .before .before .before .before .before .before .before .before .before .before .before .before .args .lo) (c .before .before .before .before .before .before .before .before .before .before .before .before .before .args .hi) (c .before .before .before .before .before .before .before .before .before .before .before .before .before .args .n) (omega arith) (omega arith) (sym (c .before .before .before .before .before .before .before .before .before .in-range .ensures) ∙ not-false (c .before .before .before .before .before .before .before .before .before .in-range .result) (c .before .before .before .before .before .before .before .before .if2 .left)) (sym (c .before .before .before .before .before .in-range2 .ensures) ∙ not-false (c .before .before .before .before .before .in-range2 .result) (c .before .before .before .before .if4 .left)) (sym (c .before .in-range3 .ensures) ∙ not-true (c .before .in-range3 .result) (c .if6 .taken)), omega arith)
+returns-6 c =
+    let args = c .before .before .before .before .before .before .before .before .before .before .before .before .before .args in
+    let in-range = c .before .before .before .before .before .before .before .before .before .in-range in
+    let if2 = c .before .before .before .before .before .before .before .before .if2 in
+    let in-range2 = c .before .before .before .before .before .in-range2 in
+    let if4 = c .before .before .before .before .if4 in
+    (out-three (args .text .now) (args .at) (args .lo) (args .hi) (args .n) (omega arith) (omega arith) (sym (in-range .ensures) ∙ not-false (in-range .result) (if2 .left)) (sym (in-range2 .ensures) ∙ not-false (in-range2 .result) (if4 .left)) (sym (c .before .in-range3 .ensures) ∙ not-true (c .before .in-range3 .result) (c .if6 .taken)), omega arith)
 
 returns-7 : tie.Need-returns-7
-returns-7 c = (in-three (c .before .before .before .before .before .before .before .before .before .before .before .before .before .args .text .now) (c .before .before .before .before .before .before .before .before .before .before .before .before .before .args .at) (c .before .before .before .before .before .before .before .before .before .before .before .before .before .args .lo) (c .before .before .before .before .before .before .before .before .before .before .before .before .before .args .hi) (c .before .before .before .before .before .before .before .before .before .before .before .before .before .args .n) (omega arith) (omega arith) (sym (c .before .before .before .before .before .before .before .before .before .in-range .ensures) ∙ not-false (c .before .before .before .before .before .before .before .before .before .in-range .result) (c .before .before .before .before .before .before .before .before .if2 .left)) (sym (c .before .before .before .before .before .in-range2 .ensures) ∙ not-false (c .before .before .before .before .before .in-range2 .result) (c .before .before .before .before .if4 .left)) (sym (c .before .in-range3 .ensures) ∙ not-false (c .before .in-range3 .result) (c .if6 .left)), omega arith)
+returns-7 c =
+    let args = c .before .before .before .before .before .before .before .before .before .before .before .before .before .args in
+    let in-range = c .before .before .before .before .before .before .before .before .before .in-range in
+    let if2 = c .before .before .before .before .before .before .before .before .if2 in
+    let in-range2 = c .before .before .before .before .before .in-range2 in
+    let if4 = c .before .before .before .before .if4 in
+    (in-three (args .text .now) (args .at) (args .lo) (args .hi) (args .n) (omega arith) (omega arith) (sym (in-range .ensures) ∙ not-false (in-range .result) (if2 .left)) (sym (in-range2 .ensures) ∙ not-false (in-range2 .result) (if4 .left)) (sym (c .before .in-range3 .ensures) ∙ not-false (c .before .in-range3 .result) (c .if6 .left)), omega arith)
 
 pub fits-len-spec : {M : Type 1} → statement M
 fits-len-spec =

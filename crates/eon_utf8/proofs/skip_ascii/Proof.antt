@@ -32,7 +32,10 @@ loop-less : tie.Need-loop-less Inv-loop μ-loop
 loop-less c = search needs
 
 loop-again : tie.Need-loop-again Inv-loop μ-loop
-loop-again c = let f = formed-on (c .before .before .before .before .args .text .now) (c .before .before .before .loop .at) 1 (ascii-len (c .before .before .before .before .args .text .now) (c .before .before .before .loop .at) (omega arith) (omega arith)) in (omega arith, omega arith, omega arith)
+loop-again c =
+    let args = c .before .before .before .before .args in
+    let loop = c .before .before .before .loop in
+    let f = formed-on (args .text .now) (loop .at) 1 (ascii-len (args .text .now) (loop .at) (omega arith) (omega arith)) in (omega arith, omega arith, omega arith)
 
 returns-2 : tie.Need-returns-2 Inv-loop μ-loop
 returns-2 c = c .before .loop .inv

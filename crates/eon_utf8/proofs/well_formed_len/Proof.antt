@@ -27,7 +27,9 @@ char-len-requires c κs = search needs
 
 returns : tie.Need-returns Inv-loop μ-loop
 unfolding wellFormedLen
-returns c = let f = formed-stop (c .before .before .before .before .before .before .args .text .now) (c .before .before .skip-ascii .result) (c .before .char-len .result) (c .before .char-len .ensures .is) (c .if1 .taken) in omega arith
+returns c =
+    let args = c .before .before .before .before .before .before .args in
+    let f = formed-stop (args .text .now) (c .before .before .skip-ascii .result) (c .before .char-len .result) (c .before .char-len .ensures .is) (c .if1 .taken) in omega arith
 
 add-at : tie.Need-add-at Inv-loop μ-loop
 add-at c = omega arith
@@ -36,7 +38,9 @@ loop-less : tie.Need-loop-less Inv-loop μ-loop
 loop-less c = omega arith
 
 loop-again : tie.Need-loop-again Inv-loop μ-loop
-loop-again c = let g = formed-on (c .before .before .before .before .before .before .args .text .now) (c .before .before .skip-ascii .result) (c .before .char-len .result) (c .before .char-len .ensures .is) in (omega arith, omega arith)
+loop-again c =
+    let args = c .before .before .before .before .before .before .args in
+    let g = formed-on (args .text .now) (c .before .before .skip-ascii .result) (c .before .char-len .result) (c .before .char-len .ensures .is) in (omega arith, omega arith)
 
 returns-2 : tie.Need-returns-2 Inv-loop μ-loop
 unfolding wellFormedLen

@@ -8,7 +8,10 @@ use Rattle.answer.proofs.verbs.put_text.Tie as tie
 
 put-tokens-requires : tie.Need-put-tokens-requires
 unfolding isUtf8
-put-tokens-requires c κs = eq-eqb _ _ (sym (c .before .before .before .before .before .before .before .well-formed-len .ensures) ∙ c .before .before .before .before .before .before .if2 .left)
+put-tokens-requires c κs =
+    let well-formed-len = c .before .before .before .before .before .before .before .well-formed-len in
+    let if2 = c .before .before .before .before .before .before .if2 in
+    eq-eqb _ _ (sym (well-formed-len .ensures) ∙ if2 .left)
 
 pub put-text-spec : {M : Type 1} → statement M
 put-text-spec =

@@ -18,11 +18,20 @@ abbrev μ-loop : tie.MeasureT-loop
 
 loop-less : tie.Need-loop-less Inv-loop μ-loop
 loop-less c =
-    omega (arith, bounds (c .before .before .before .before .before .before .before .before .before .before .args .text .now) (c .before .before .before .before .before .before .before .before .before .before .pre) (c .before .before .before .before .before .before .before .loop .from) (c .before .before .before .before .before .before .before .loop .inv .0) (c .before .before .before .before .before .before .next-token .result) (c .before .before .before .before .before .before .next-token .ensures) (c .before .before .before .before .if1 .left))
+    let args = c .before .before .before .before .before .before .before .before .before .before .args in
+    let pre = c .before .before .before .before .before .before .before .before .before .before .pre in
+    let loop = c .before .before .before .before .before .before .before .loop in
+    let next-token = c .before .before .before .before .before .before .next-token in
+    let if1 = c .before .before .before .before .if1 in
+    omega (arith, bounds (args .text .now) pre (loop .from) (loop .inv .0) (next-token .result) (next-token .ensures) (if1 .left))
 
 loop-again : tie.Need-loop-again Inv-loop μ-loop
 loop-again c =
-    (end-boundary (c .before .before .before .before .before .before .before .before .before .before .args .text .now) (c .before .before .before .before .before .before .before .before .before .before .pre) (c .before .before .before .before .before .before .before .loop .from) (c .before .before .before .before .before .before .before .loop .inv .0) (c .before .before .before .before .before .before .next-token .result) (c .before .before .before .before .before .before .next-token .ensures), search needs)
+    let args = c .before .before .before .before .before .before .before .before .before .before .args in
+    let pre = c .before .before .before .before .before .before .before .before .before .before .pre in
+    let loop = c .before .before .before .before .before .before .before .loop in
+    let next-token = c .before .before .before .before .before .before .next-token in
+    (end-boundary (args .text .now) pre (loop .from) (loop .inv .0) (next-token .result) (next-token .ensures), search needs)
 
 pub put-tokens-spec : {M : Type 1} → statement M
 put-tokens-spec =
