@@ -56,7 +56,7 @@ void eon_format(const uint8_t *text, size_t text_len, const uint32_t *table, siz
 
 /* Reads a text into the table and lays it out, without a second check of the table. value: the number of bytes written to
  * the beginning of `out`; the table is then finished. Refuses by 16, 1 to 13, then by 14 if the table or `out` is too
- * short; both are unchanged then. It needs 1.4 MB of stack for texts over 16,383 bytes, 450 KB for others. */
+ * short; both are unchanged then. It needs 1.7 MB of stack for texts over 16,383 bytes, 450 KB for others. */
 void eon_reformat(const uint8_t *text, size_t text_len, uint32_t *table, size_t table_words, const uint8_t *indentation,
                   size_t indentation_len, const uint8_t *newline, size_t newline_len,
                   const uint8_t *space_before_suffix_comment, size_t space_before_suffix_comment_len,
