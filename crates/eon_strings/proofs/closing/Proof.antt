@@ -21,7 +21,7 @@ returns : tie.Need-returns Inv-loop μ-loop
 returns c =
     let a = c .before .before .before .args in
     let l = c .before .before .loop in
-    back-over (a .text .now) (a .from) (a .quote) (a .n) (l .at) (l .left) (l .inv) (c .if1 .taken) (omega arith)
+    back-over (a .text .now) (a .from) (a .quote) (a .n) (l .at) (l .left) (l .inv) (omega arith) (omega arith)
 
 sub-at : tie.Need-sub-at Inv-loop μ-loop
 sub-at c = search needs
