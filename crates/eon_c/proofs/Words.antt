@@ -2,7 +2,8 @@
 use mathlib.Core.Path.{_≡_, refl, sym, _∙_, ap}
 use mathlib.Core.Bool.{Bool, true, false, cond}
 use mathlib.Core.List.{List}
-use Prim.Native.Nat.{ℕ}
+use Prim.Native.Nat.{ℕ, zero, suc}
+use lib.ListN.{length}
 use mir.Val.{boolByte}
 use Rattle.eon_spec.specs.declared.Refusal.{Refusal}
 use Rattle.eon_spec.specs.declared.Answer.{Answer}
@@ -10,12 +11,13 @@ use Rattle.eon_spec.specs.declared.Answer.the-variants as answer
 use Rattle.eon_spec.specs.declared.Compared.{Compared}
 use Rattle.eon_spec.specs.declared.Compared.the-variants as compared
 use Rattle.eon_spec.specs.declared.Which.{Which}
+use Rattle.eon_spec.specs.declared.Which.the-variants.{Scratch}
 use Rattle.eon_spec.specs.declared.Unquoted.{Unquoted}
 use Rattle.eon_spec.specs.declared.Unquoted.the-variants as unquoted
 use Rattle.eon_spec.specs.declared.Setting.{Setting}
 use Rattle.eon_spec.specs.declared.FormatOptions.{FormatOptions}
-use Rattle.eon_spec.specs.Calls.{Outcome, After, after, AfterBoth, afterBoth, outcomeOf, comparedOutcome, unquotedOutcome}
-use Rattle.eon_c.specs.Words.{refusedWords, doneWords, countWords, truthWords, partWords, sliceNumber, settingOf, optionsOf}
+use Rattle.eon_spec.specs.Calls.{Outcome, After, after, AfterBoth, afterBoth, outcomeOf, comparedOutcome, unquotedOutcome, partOf, showCall}
+use Rattle.eon_c.specs.Words.{refusedWords, doneWords, countWords, truthWords, partWords, sliceNumber, whichOf, shownWords, settingOf, optionsOf}
 
 module _ (w : List ℕ) where
   pub counted : (a : Answer) (n : ℕ) → a ≡ answer.Done n → w ≡ doneWords n 0 0 → w ≡ countWords (outcomeOf a)
@@ -38,6 +40,21 @@ module _ (w : List ℕ) where
 
   pub part-refused : (u : Unquoted) (r : Refusal) → u ≡ unquoted.Refused r → w ≡ refusedWords r → w ≡ partWords (unquotedOutcome u)
   part-refused u r e f = f ∙ rw e refl
+
+  pub shown-none : (n : ℕ) (s : Which) (start : ℕ) → n ≡ 0 → w ≡ doneWords 0 0 0 → w ≡ shownWords n s start
+  shown-none n s start e f = rw e f
+
+  pub shown-some : (n : ℕ) (s t : Which) (start m : ℕ) → (n ≡ 0 → ⊥) → t ≡ s → m ≡ sliceNumber t → w ≡ doneWords n m start → w ≡ shownWords n s start
+  shown-some zero s t start m h e g f = absurd (h refl)
+  shown-some (suc n) s t start m h e g f = f ∙ ap (λ (x : ℕ). doneWords (suc n) x start) (g ∙ ap sliceNumber e)
+
+  -- what is shown, for the slice that a number names
+  pub shown-of : (b q c : List ℕ) (s t : Which) (start len : ℕ) → t ≡ s → b ≡ showCall (partOf t start len) q c → w ≡ shownWords (length b) s start → w ≡ shownWords (length (showCall (partOf s start len) q c)) s start
+  shown-of b q c s t start len e g f = f ∙ ap (λ (x : List ℕ). shownWords (length x) s start) (g ∙ ap (λ (x : Which). showCall (partOf x start len) q c) e)
+
+pub not-quoted : (n : ℕ) → (n ≡ 0 → ⊥) → Scratch ≡ whichOf n
+not-quoted zero h = absurd (h refl)
+not-quoted (suc n) h = refl
 
 -- a call with one memory, in words
 pub answered : {A : Type 0} (f : Outcome A → List ℕ) (w : List ℕ) (a : Outcome A) (m : List ℕ) (x : After A) → w ≡ f a → after a m ≡ x → (w ≡ f (x .answer)) × (m ≡ x .memory)

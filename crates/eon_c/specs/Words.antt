@@ -1,6 +1,6 @@
 -- An answer as eight words: number, start, end, expected kind and found kind of a refusal, then count, slice and start of a value.
 -- Refused, the last three are 0; answered, the first five are.
-use Prim.Native.Nat.{ℕ}
+use Prim.Native.Nat.{ℕ, zero, suc}
 use mathlib.Core.Bool.{Bool, cond}
 use mathlib.Core.List.{List, [], _∷_}
 use lib.Dec.{leb}
@@ -34,9 +34,18 @@ abbrev pub sliceNumber : Which → ℕ
 sliceNumber Quoted = 0
 sliceNumber Scratch = 1
 
+abbrev pub whichOf : ℕ → Which
+whichOf zero = Quoted
+whichOf (suc n) = Scratch
+
 abbrev pub partWords : Outcome Part → List ℕ
 partWords (done p) = doneWords (p .len) (sliceNumber (p .which)) (p .start)
 partWords (refusedWith r) = refusedWords r
+
+-- of showing, so many bytes from a place in a slice: no byte stands at the quoted slice's beginning
+abbrev pub shownWords : ℕ → Which → ℕ → List ℕ
+shownWords zero w start = doneWords 0 0 0
+shownWords (suc n) w start = doneWords (suc n) (sliceNumber w) start
 
 -- the settings that four texts name; of a text over 16 bytes the length alone, which layout refuses by 16
 abbrev pub settingOf : List ℕ → Setting

@@ -1,8 +1,9 @@
 // The public calls for programs in other languages: numbers and slices alone, and the answer in eight words that the caller lends.
 ghost use mathlib.Core.Path.{_≡_};
+ghost use lib.ListN.{length};
 ghost use Rattle.eon_spec.specs.Unquote.{isValidIdentifier};
-ghost use Rattle.eon_spec.specs.Calls.{after, outcomeOf, readCall, formatCall, reformatCall, comparedOutcome, compareCall, unquotedOutcome, unquoteCall};
-ghost use Rattle.eon_c.specs.Words.{refusedWords, doneWords, countWords, truthWords, sliceNumber, partWords, optionsOf};
+ghost use Rattle.eon_spec.specs.Calls.{after, outcomeOf, readCall, formatCall, reformatCall, comparedOutcome, compareCall, unquotedOutcome, unquoteCall, partOf, showCall};
+ghost use Rattle.eon_c.specs.Words.{refusedWords, doneWords, countWords, truthWords, sliceNumber, whichOf, partWords, shownWords, optionsOf};
 use eon_spec::Answer;
 use eon_spec::Compared;
 use eon_spec::FormatOptions;
@@ -57,6 +58,15 @@ fn slice_number(which: Which) -> u64
         Which::Quoted => 0,
         Which::Scratch => 1,
     }
+}
+
+fn which_of(slice: u64) -> Which
+    ensures { λ w. ⌜ w ≡ whichOf slice ⌝ }
+{
+    if slice == 0 {
+        return Which::Quoted;
+    }
+    Which::Scratch
 }
 
 fn part_words(u: Unquoted) -> [u64; 8]
@@ -158,6 +168,31 @@ pub extern "C" fn eon_unquote(quoted: &[u8], scratch: &mut [u8], answer: &mut [u
     ensures { λ _. ⌜ now (scratch .exit) ≡ unquoteCall (now (quoted .entry)) (now (scratch .entry)) .memory ⌝ }
 {
     *answer = part_words(eon_syntax::unescape_and_unquote(quoted, scratch));
+}
+
+// Of the part that is shown C is told the place: an exported function hands back no reference.
+fn shown_words(shown: usize, slice: u64, start: usize) -> [u64; 8]
+    ensures { λ w. ⌜ w ≡ shownWords shown (whichOf slice) start ⌝ }
+{
+    if shown == 0 {
+        return done_words(0, 0, 0);
+    }
+    done_words(shown as u64, slice_number(which_of(slice)), start as u64)
+}
+
+#[no_mangle]
+pub extern "C" fn eon_show<'a>(
+    quoted: &'a [u8],
+    scratch: &'a [u8],
+    slice: u64,
+    start: usize,
+    len: usize,
+    answer: &mut [u64; 8],
+)
+    ensures { λ _. ⌜ now (answer .exit) ≡ shownWords (length (showCall (partOf (whichOf slice) start len) (now (quoted .entry)) (now (scratch .entry)))) (whichOf slice) start ⌝ }
+{
+    let shown = eon_syntax::show(quoted, scratch, which_of(slice), start, len);
+    *answer = shown_words(shown.len(), slice, start);
 }
 
 #[no_mangle]

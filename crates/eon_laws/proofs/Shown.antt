@@ -1,12 +1,12 @@
--- Showing what unquoting answered gives the value, wherever it is held.
+-- Showing what unquoting answered gives the value, wherever it is held; and what is shown stands where it was said to stand.
 use mathlib.Core.Path.{_≡_, refl, sym, _∙_, ap}
 use mathlib.Core.Logic.{_⊎_, inl, inr}
 use mathlib.Core.Bool.{Bool, true, false, _&&_, _||_, not, cond}
 use mathlib.Core.List.{List, [], _∷_, _++_}
 use Prim.Native.Nat.{ℕ, suc, _+_, _-_, _≤_, _<_}
 use native.Mathlib.Omega.{arith}
-use lib.ListN.{length, take, drop, length-append, take-append-drop}
-use lib.Seq.{take-append-seam, drop-append-seam, drop-drop}
+use lib.ListN.{length, take, drop, length-append, length-drop, take-append-drop}
+use lib.Seq.{take-append-seam, drop-append-seam, drop-drop, length-take-le}
 use lib.Dec.{leb, ltb, eqb}
 use borrow.Author.Tests.{le-leb, lt-ltb, le-ltb, ne-eqb}
 use Rattle.eon_spec.specs.Base.{elem, eqList}
@@ -14,7 +14,7 @@ use Rattle.eon_spec.specs.Utf8.{encodeChar, encode, decode, isUtf8}
 use Rattle.eon_spec.specs.Unquote.{Unescaped, value, fault, push, unescape, plain, without, startsWith, endsWith, inMarks, oneLineOnly, dropLineFeed, unquoteChars, valueBytes, unquote}
 use Rattle.eon_spec.specs.declared.Refusal.{Refusal}
 use Rattle.eon_spec.specs.declared.Which.the-variants.{Quoted, Scratch}
-use Rattle.eon_spec.specs.Calls.{done, refusedWith, After, after, nowhere, checked, written, fill, Part, partOf, opening, isPart, handedBack, unescapedOutcome, unquoteCall, showCall}
+use Rattle.eon_spec.specs.Calls.{done, refusedWith, After, after, nowhere, checked, written, fill, Part, partOf, opening, isPart, handedBack, unescapedOutcome, unquoteCall, pick, showCall}
 use Rattle.eon_laws.proofs.Facts.{clash, and-left, and-right, nor-left, nor-right, eq-of, eqb-same, le-of, list-eq, le-of-not}
 use Rattle.eon_laws.proofs.Encode.{encode-append, encode-decode}
 
@@ -357,3 +357,17 @@ module _ (s scratch : List ℕ) where
               let x : after (done (partOf Scratch 0 (length (encode v)))) (written (encode v) scratch) ≡ after (done p) m = rw (l, fill) at (rw i at g) in
               let n : 0 + length (encode v) ≤ length (written (encode v) scratch) = rw (length-append (encode v) (drop (length (encode v)) scratch)) (omega arith) in
               rw (← same x .0, ← same x .1, le-leb (0 + length (encode v)) (length (written (encode v) scratch)) n) (sym (take-append-seam (encode v) (drop (length (encode v)) scratch)))
+
+-- bytes that are shown stand within the slice named, from the place named on
+pub shown-stands : (p : Part) (q s : List ℕ) → 0 < length (showCall p q s)
+    → (p .start + length (showCall p q s) ≤ length (pick (p .which) q s)) × (showCall p q s ≡ take (length (showCall p q s)) (drop (p .start) (pick (p .which) q s)))
+unfolding showCall
+shown-stands p q s h = go (leb (p .start + p .len) (length (pick (p .which) q s))) refl h
+  where
+    go : (t : Bool) → leb (p .start + p .len) (length (pick (p .which) q s)) ≡ t → 0 < length (cond t (take (p .len) (drop (p .start) (pick (p .which) q s))) [])
+        → (p .start + length (showCall p q s) ≤ length (pick (p .which) q s)) × (showCall p q s ≡ take (length (showCall p q s)) (drop (p .start) (pick (p .which) q s)))
+    go false e k = absurd (omega (arith, k))
+    go true e k =
+        let w = le-of (p .start + p .len) (length (pick (p .which) q s)) e in
+        let n : length (take (p .len) (drop (p .start) (pick (p .which) q s))) ≡ p .len = length-take-le (p .len) (drop (p .start) (pick (p .which) q s)) (omega (arith, w, length-drop (p .start) (pick (p .which) q s))) in
+        rw (e, showCall) (omega (arith, n, w), rw n refl)

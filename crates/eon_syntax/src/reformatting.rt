@@ -67,7 +67,8 @@ fn reformat_in(
     }
 }
 
-// Tables of 2048, 16384 and 65536 records: small texts need no large frame, and pay for clearing a small one only.
+// Tables of 2048, 16384 and 65536 records: small texts need no large frame, and pay for clearing a small one only. A function that
+// calls itself is not unfolded into its caller, so that a shorter text does not pay for the stack of a longer one's frame.
 fn in_small(text: &[u8], table: &mut [u32], options: FormatOptions, out: &mut [u8]) -> Answer
     requires { ⌜ length (now text) ≤ 2047 ⌝ }
     ensures { λ r. ⌜ afterBoth (outcomeOf r) (now (table .exit)) (now (out .exit)) ≡ reformatCall (now (text .entry)) (now (table .entry)) options (now (out .entry)) ⌝ }
@@ -80,11 +81,14 @@ fn in_medium(text: &[u8], table: &mut [u32], options: FormatOptions, out: &mut [
     requires { ⌜ length (now text) ≤ 16383 ⌝ }
     ensures { λ r. ⌜ afterBoth (outcomeOf r) (now (table .exit)) (now (out .exit)) ≡ reformatCall (now (text .entry)) (now (table .entry)) options (now (out .entry)) ⌝ }
 {
+    if 16383 < text.len() {
+        return in_medium(&text[..16383], table, options, out);
+    }
     let mut work = [0u32; 81920];
     reformat_in(text, &mut work, table, options, out)
 }
 
-// An overlong text is refused as its beginning is. A function that calls itself is not unfolded into its caller, so that short texts do not pay for this frame's stack.
+// An overlong text is refused as its beginning is.
 fn in_large(text: &[u8], table: &mut [u32], options: FormatOptions, out: &mut [u8]) -> Answer
     ensures { λ r. ⌜ afterBoth (outcomeOf r) (now (table .exit)) (now (out .exit)) ≡ reformatCall (now (text .entry)) (now (table .entry)) options (now (out .entry)) ⌝ }
 {

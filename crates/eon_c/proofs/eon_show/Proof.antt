@@ -1,0 +1,27 @@
+use borrow.Author.Needs.{needs}
+use denote.Ref.{now}
+use Rattle.eon_c.proofs.Words.{shown-of}
+use Rattle.eon_c.proofs.eon_show.Statement.{statement}
+use Rattle.eon_c.proofs.eon_show.Tie as tie
+use Rattle.eon_c.specs.Words.{whichOf}
+
+-- src/lib.rt:194:51
+which-of-requires : tie.Need-which-of-requires
+which-of-requires c κs = search needs
+
+-- src/lib.rt:194:9
+show-requires : tie.Need-show-requires
+show-requires c κs = search needs
+
+-- src/lib.rt:195:15
+shown-words-requires : tie.Need-shown-words-requires
+shown-words-requires c κs = search needs
+
+-- src/lib.rt:183:1
+returns : tie.Need-returns
+returns c =
+    let args = c .before .before .before .before .before .args in
+    shown-of _ (now (c .before .show .result)) (now (args .quoted)) (now (args .scratch)) (whichOf (args .slice)) (c .before .before .which-of .result) (args .start) (args .len) (c .before .before .which-of .ensures) (c .before .show .ensures) (c .shown-words .ensures)
+
+pub eon-show-spec : {M : Type 1} → statement M
+eon-show-spec = tie.close (tie.spec which-of-requires show-requires shown-words-requires returns)
