@@ -1,68 +1,47 @@
--- `eon_reader::count` meets its contract: the tokens counted and those from `at` on are all.
-use mathlib.Core.Path.{_≡_, sym, ap, subst, _∙_}
-use mathlib.Core.Bool.{false}
-use Prim.Native.Nat.{ℕ, _+_, _-_, _≤_}
-use native.Mathlib.Nat.{zero-add}
+-- `eon_reader::count` meets its contract: 1, then 2, then what a checked text gives.
+use mathlib.Core.Path.{ap, _∙_}
 use native.Mathlib.Omega.{arith}
-use lib.ListN.{length}
 use borrow.Author.Needs.{needs}
 use denote.Ref.{now}
-use Rattle.eon_token.specs.Placed.{tokensAt}
-use Rattle.eon_reader.specs.Read.{Stands, tokenCount}
-use Rattle.eon_reader.proofs.Stand.{start-stands, count-start, tokens-over, behind-stands, count-over, count-more}
+use Rattle.eon_spec.specs.Calls.{refusedWith}
+use Rattle.eon_reader.proofs.Stand.{count-long, count-bad, good-text, count-good}
 use Rattle.eon_reader.proofs.count.Statement.{statement}
 use Rattle.eon_reader.proofs.count.Tie as tie
 
-abbrev Inv-loop : tie.InvT-loop
-Inv-loop text at₀ n₀ at n = Stands text at × (n + length (tokensAt text at false) ≡ tokenCount text) × (n ≤ at)
+new-requires : tie.Need-new-requires
+new-requires c κs = search needs
 
-abbrev μ-loop : tie.MeasureT-loop
-μ-loop text at₀ n₀ at n = length text - at
+returns : tie.Need-returns
+returns c = ap refusedWith (c .new .ensures) ∙ count-long (now (c .before .before .before .args .text)) (omega (arith, c .before .if1 .taken))
 
-start-requires : tie.Need-start-requires Inv-loop μ-loop
-start-requires c κs = search needs
+well-formed-len-requires : tie.Need-well-formed-len-requires
+well-formed-len-requires c κs = search needs
 
-loop-holds : tie.Need-loop-holds Inv-loop μ-loop
-loop-holds c =
-    let s = now (c .before .before .args .text) in
-    let e = c .start .ensures in
-    (subst (Stands s) (sym e) (start-stands s), zero-add (length (tokensAt s (c .start .result) false)) ∙ ap (λ (i : ℕ). length (tokensAt s i false)) e ∙ count-start s, omega arith)
+count-checked-requires : tie.Need-count-checked-requires
+count-checked-requires c κs = let w = c .before .well-formed-len in good-text (now (c .before .before .before .before .args .text)) (w .result) (w .ensures) (c .if2 .taken)
 
-token-at-requires : tie.Need-token-at-requires Inv-loop μ-loop
-token-at-requires c κs = c .before .loop .inv .0
+returns-2 : tie.Need-returns-2
+returns-2 c =
+    let s = now (c .before .before .before .before .before .args .text) in
+    let w = c .before .before .well-formed-len in
+    c .count-checked .ensures ∙ count-good s (omega (arith, c .before .before .before .if1 .left)) (good-text s (w .result) (w .ensures) (c .before .if2 .taken))
 
-returns : tie.Need-returns Inv-loop μ-loop
-returns c = omega (arith, c .before .before .before .before .loop .inv .1, count-over (now (c .before .before .before .before .before .before .before .args .text)) (c .before .before .before .before .loop .at) (c .before .before .token-at .result) (c .before .before .token-at .ensures) (c .before .before .before .before .loop .inv .0) (c .if1 .taken))
+new-requires-2 : tie.Need-new-requires-2
+new-requires-2 c κs = search needs
 
-add-n : tie.Need-add-n Inv-loop μ-loop
-add-n c =
-    let m = count-more (now (c .before .before .before .before .before .before .before .args .text)) (c .before .before .before .before .loop .at) (c .before .before .token-at .result) (c .before .before .token-at .ensures) (c .before .before .before .before .loop .inv .0) (c .before .before .before .loop-test .taken) (c .if1 .left) in
-    omega (arith, c .before .before .before .before .loop .inv .2, m .1, m .2)
-
-loop-less : tie.Need-loop-less Inv-loop μ-loop
-loop-less c =
-    let m = count-more (now (c .before .before .before .before .before .before .before .args .text)) (c .before .before .before .before .loop .at) (c .before .before .token-at .result) (c .before .before .token-at .ensures) (c .before .before .before .before .loop .inv .0) (c .before .before .before .loop-test .taken) (c .if1 .left) in
-    omega (arith, m .1, m .2)
-
-loop-again : tie.Need-loop-again Inv-loop μ-loop
-loop-again c =
-    let m = count-more (now (c .before .before .before .before .before .before .before .args .text)) (c .before .before .before .before .loop .at) (c .before .before .token-at .result) (c .before .before .token-at .ensures) (c .before .before .before .before .loop .inv .0) (c .before .before .before .loop-test .taken) (c .if1 .left) in
-    (behind-stands (now (c .before .before .before .before .before .before .before .args .text)) (c .before .before .before .before .loop .at) (c .before .before .token-at .result) (c .before .before .token-at .ensures) (c .before .before .before .before .loop .inv .0), omega (arith, c .before .before .before .before .loop .inv .1, m .0), omega (arith, c .before .before .before .before .loop .inv .2, m .1))
-
-returns-2 : tie.Need-returns-2 Inv-loop μ-loop
-returns-2 c = omega (arith, c .before .loop .inv .1, ap length (tokens-over (now (c .before .before .before .before .args .text)) (c .before .loop .at) (c .loop-test .left)))
+returns-3 : tie.Need-returns-3
+returns-3 c =
+    let w = c .before .before .well-formed-len in
+    ap refusedWith (c .new2 .ensures) ∙ count-bad (now (c .before .before .before .before .before .args .text)) (omega (arith, c .before .before .before .if1 .left)) (w .result) (w .ensures) (c .before .if2 .left)
 
 pub count-spec : {M : Type 1} → statement M
 count-spec =
     tie.close
     (tie.spec
-    Inv-loop
-    μ-loop
-    start-requires
-    loop-holds
-    token-at-requires
+    new-requires
     returns
-    add-n
-    loop-less
-    loop-again
-    returns-2)
+    well-formed-len-requires
+    count-checked-requires
+    returns-2
+    new-requires-2
+    returns-3)
