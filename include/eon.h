@@ -1,22 +1,15 @@
 /* Eon texts by the proved calls of crates/eon_c. Link target/staticlib/libeon_c.a, written by `rt staticlib eon_c`.
  *
- * No call allocates, keeps a pointer, or needs a text that ends in a zero byte. A pointer may be any address that is not
- * null where its length is 0. What is lent to be written must not overlap anything else that is handed to the same call.
+ * Texts are any bytes; read are those of at most EON_MAX_TEXT bytes of UTF-8. A call answers, or refuses by a number, and a
+ * refusal leaves the lent table, output or scratch as it was. No call allocates, keeps a pointer, or needs a text that ends
+ * in a zero byte. What the caller owes:
+ * - a pointer is good for its length; where that is 0 it is not looked at, and may be null;
+ * - tables, outputs, scratches and answers are initialised, also where a call only writes them, and aligned as their types;
+ * - what is lent to be written overlaps nothing else that is handed to the same call;
+ * - the stack that the call states; a thread needs some 10 KB for itself besides.
  *
- * Texts are at most 65,535 bytes of UTF-8. A table has five words a record: kind, start, text end, end, records in it
- * counting itself. Kinds: 1 identifier, 2 number, 3 string, 4 list, 5 map, 6 variant, 7 prefix, 8 suffix, 9 closing
- * comment. A text of n bytes needs at most n + 1 records.
- *
- * Every refusal leaves the lent table, output or scratch unchanged. Refusals, by number:
- *    1 overlong                      10 no value                        19 line break in a one-line string
- *    2 garbled: not UTF-8            11 mismatch: another token         20 ends in a backslash
- *    3 stray: invalid token          12 cut off: text ends              21 unknown escape
- *    4 too deep                      13 surplus after the end           22 \u without {
- *    5 missing value                 14 no space in the lent memory     23 ninth hex digit
- *    6 unbalanced ]                  15 stale: not this text's table    24 foreign character in \u{..}
- *    7 unbalanced }                  16 bad settings                    25 \u{..} not closed
- *    8 unbalanced )                  17 no opening quote                26 not a Unicode scalar value
- *    9 nameless: ( without a name    18 no closing quote
+ * A table has EON_RECORD_WORDS words a record, records in the order of the text: kind, start, text end (a variant name's
+ * end, otherwise the end), end, and the number of records in it counting itself. A map's values alternate, key and value.
  */
 #ifndef EON_H
 #define EON_H
@@ -29,25 +22,101 @@
 extern "C" {
 #endif
 
+/* The version of this header and of the archive that it goes with: major, minor, patch. */
+#define EON_VERSION "0.1.0"
+#define EON_VERSION_NUMBER 100 /* 10000 * major + 100 * minor + patch */
+
+#define EON_MAX_TEXT 65535
+#define EON_RECORD_WORDS 5
+
+/* Lent so much, no call on a text of n bytes refuses by EON_NO_SPACE: the table's words, the layout's bytes under
+ * EON_DEFAULT_SETTINGS, the scratch's bytes. */
+#define EON_TABLE_WORDS(n) (EON_RECORD_WORDS * ((n) + 1))
+#define EON_LAYOUT_BYTES(n) (68 * ((n) + 1))
+#define EON_SCRATCH_BYTES(n) (n)
+
+enum eon_record_kind {
+    EON_RECORD_IDENTIFIER = 1,
+    EON_RECORD_NUMBER,
+    EON_RECORD_STRING,
+    EON_RECORD_LIST,
+    EON_RECORD_MAP,
+    EON_RECORD_VARIANT,
+    EON_RECORD_PREFIX_COMMENT,
+    EON_RECORD_SUFFIX_COMMENT,
+    EON_RECORD_CLOSING_COMMENT
+};
+
+enum eon_token_kind {
+    EON_TOKEN_COMMENT = 1,
+    EON_TOKEN_OPEN_LIST,
+    EON_TOKEN_CLOSE_LIST,
+    EON_TOKEN_OPEN_BRACE,
+    EON_TOKEN_CLOSE_BRACE,
+    EON_TOKEN_OPEN_PAREN,
+    EON_TOKEN_CLOSE_PAREN,
+    EON_TOKEN_COLON,
+    EON_TOKEN_COMMA,
+    EON_TOKEN_IDENTIFIER,
+    EON_TOKEN_NUMBER,
+    EON_TOKEN_DOUBLE_QUOTED_STRING,
+    EON_TOKEN_SINGLE_QUOTED_STRING,
+    EON_TOKEN_MULTILINE_BASIC_STRING,
+    EON_TOKEN_MULTILINE_LITERAL_STRING
+};
+
+/* Start and end say which bytes of the text are meant; from EON_NO_SPACE on they are 0, 0. */
+enum eon_refusal {
+    EON_OVERLONG = 1,         /* over EON_MAX_TEXT bytes; at that length */
+    EON_GARBLED,              /* not UTF-8; at the end of the longest well-formed beginning */
+    EON_STRAY,                /* an invalid token */
+    EON_TOO_DEEP,             /* a value inside 64 containers; the token before it, a comment or a comma among them */
+    EON_MISSING_VALUE,        /* the text ends where a value must start; at its end */
+    EON_UNBALANCED_LIST,      /* a `]` found as a value */
+    EON_UNBALANCED_BRACE,     /* a `}` found as a value */
+    EON_UNBALANCED_PAREN,     /* a `)` found as a value */
+    EON_NAMELESS,             /* a `(` found as a value */
+    EON_NO_VALUE,             /* a `:` or `,` found as a value */
+    EON_MISMATCH,             /* another token than the one expected; the token found */
+    EON_CUT_OFF,              /* the text ends where a token is expected; the token before, a comment or a comma among them */
+    EON_SURPLUS,              /* a token behind the end */
+    EON_NO_SPACE,             /* the answer is longer than the lent memory */
+    EON_STALE,                /* the table is not this text's */
+    EON_BAD_SETTINGS,         /* a setting over 16 bytes or not UTF-8 */
+    EON_NO_OPENING_QUOTE,     /* from here on: of unquoting */
+    EON_NO_CLOSING_QUOTE,
+    EON_LINE_BREAK,           /* in a one-line string */
+    EON_ENDS_IN_BACKSLASH,
+    EON_UNKNOWN_ESCAPE,
+    EON_NO_BRACE,             /* \u without { */
+    EON_NINTH_DIGIT,          /* in \u{..} */
+    EON_FOREIGN_CHARACTER,    /* in \u{..} */
+    EON_NOT_CLOSED,           /* \u{.. */
+    EON_NO_SCALAR_VALUE       /* \u{..} of a code point that is no Unicode scalar value */
+};
+
 /* Every call but the identifier test writes all eight words. */
 typedef struct eon_answer {
     uint64_t number;   /* 0: answered; otherwise the refusal's number */
     uint64_t start;    /* where the refused part of the text starts, in bytes */
     uint64_t end;      /* where it ends */
-    uint64_t expected; /* 11 and 12: the token kind expected, from 1; otherwise 0 */
-    uint64_t found;    /* 11: the token kind found; otherwise 0 */
+    uint64_t expected; /* EON_MISMATCH, EON_CUT_OFF: the token kind expected; otherwise 0 */
+    uint64_t found;    /* EON_MISMATCH: the token kind found; otherwise 0 */
     uint64_t value;    /* answered: the count that the call names; refused: 0 */
     uint64_t slice;    /* unquoting: 0, the value is a part of the quoted slice; 1, of the scratch */
     uint64_t from;     /* unquoting: where in that slice the value starts */
 } eon_answer;
 
-/* Reads a text into the table. value: the number of records; they are the first 5 * value words, and the words behind
- * them keep their content. Refuses by 1 to 13, then by 14 if the records are more words than the table has. */
+/* The settings of the calls that lay out: a tab, a line feed, a blank, `: `, no outer braces. */
+#define EON_DEFAULT_SETTINGS                                                                                           \
+    (const uint8_t *)"\t", 1, (const uint8_t *)"\n", 1, (const uint8_t *)" ", 1, (const uint8_t *)": ", 2, false
+
+/* Reads a text into the table. value: the number of records; they are the first EON_RECORD_WORDS * value words, and the
+ * words behind them keep their content. Refuses by 1 to 13, then by 14. Stack: 100 KB. */
 void eon_read(const uint8_t *text, size_t text_len, uint32_t *table, size_t table_words, eon_answer *answer);
 
 /* Lays a text out by its finished table. value: the number of bytes written to the beginning of `out`; the bytes behind
- * them keep their content. Settings are at most 16 bytes of UTF-8 each; usual are a tab, a line feed, a blank, `: ` and
- * false. Refuses by 16, 1 to 13, 15, then by 14 if the layout is longer than `out`. */
+ * them keep their content. Refuses by 16, 1 to 13, 15, then by 14. Stack: 130 KB. */
 void eon_format(const uint8_t *text, size_t text_len, const uint32_t *table, size_t table_words,
                 const uint8_t *indentation, size_t indentation_len, const uint8_t *newline, size_t newline_len,
                 const uint8_t *space_before_suffix_comment, size_t space_before_suffix_comment_len,
@@ -56,7 +125,8 @@ void eon_format(const uint8_t *text, size_t text_len, const uint32_t *table, siz
 
 /* Reads a text into the table and lays it out, without a second check of the table. value: the number of bytes written to
  * the beginning of `out`; the table is then finished. Refuses by 16, 1 to 13, then by 14 if the table or `out` is too
- * short; both are unchanged then. It needs 1.7 MB of stack for texts over 16,383 bytes, 450 KB for others. */
+ * short; both are unchanged then. Stack: 180 KB for a text of up to 2,047 bytes, 550 KB up to 16,383, and 1,700 KB for
+ * any other. */
 void eon_reformat(const uint8_t *text, size_t text_len, uint32_t *table, size_t table_words, const uint8_t *indentation,
                   size_t indentation_len, const uint8_t *newline, size_t newline_len,
                   const uint8_t *space_before_suffix_comment, size_t space_before_suffix_comment_len,
@@ -64,19 +134,79 @@ void eon_reformat(const uint8_t *text, size_t text_len, uint32_t *table, size_t 
                   bool always_include_outer_braces, uint8_t *out, size_t out_len, eon_answer *answer);
 
 /* Compares the trees of two texts with their finished tables, spans aside. value: 1 if they are equal, otherwise 0.
- * Refuses by 1 to 13 and 15 of the first text, then of the second. */
+ * Refuses by 1 to 13 and 15 of the first text, then of the second. Stack: 100 KB. */
 void eon_compare(const uint8_t *text1, size_t text1_len, const uint32_t *table1, size_t table1_words,
                  const uint8_t *text2, size_t text2_len, const uint32_t *table2, size_t table2_words,
                  eon_answer *answer);
 
 /* The value of a quoted string. value: its length; it stands at `from` in the quoted slice (slice 0) if that has no
  * carriage return and is literal or has no backslash; the scratch is then unchanged. Otherwise it is the beginning of the
- * scratch (slice 1), and the bytes behind it keep their content. A scratch as long as the quoted slice suffices. Refuses
- * by 1, 2, 17 to 26, then by 14 if the value is to be written and longer than the scratch. */
+ * scratch (slice 1), and the bytes behind it keep their content. Refuses by 1, 2, 17 to 26, then by 14 if the value is to be
+ * written and longer than the scratch. Stack: 8 KB. */
 void eon_unquote(const uint8_t *quoted, size_t quoted_len, uint8_t *scratch, size_t scratch_len, eon_answer *answer);
 
-/* Whether a string needs no quotes: [a-zA-Z_][a-zA-Z0-9_]* other than true, false and null. Takes any bytes. */
+/* Where the part stands that unquoting named by `slice`, `from` and `value`: slice 0 is the quoted one, any other the
+ * scratch. The answer's slice, from and value lie within these two slices whatever was named: a part that reaches beyond
+ * its slice, and an empty one, is the empty beginning of the quoted slice. Never refuses. Stack: 8 KB. */
+void eon_show(const uint8_t *quoted, size_t quoted_len, const uint8_t *scratch, size_t scratch_len, uint64_t slice,
+              size_t from, size_t value, eon_answer *answer);
+
+/* Whether a string needs no quotes: [a-zA-Z_][a-zA-Z0-9_]* other than true, false and null. Takes any bytes.
+ * Stack: 8 KB. */
 bool eon_is_valid_identifier(const uint8_t *text, size_t text_len);
+
+/* The word for a refusal's number. */
+static inline const char *eon_refusal_word(uint64_t number) {
+    switch (number) {
+    case EON_OVERLONG: return "overlong";
+    case EON_GARBLED: return "garbled";
+    case EON_STRAY: return "stray";
+    case EON_TOO_DEEP: return "too deep";
+    case EON_MISSING_VALUE: return "missing value";
+    case EON_UNBALANCED_LIST: return "unbalanced `]`";
+    case EON_UNBALANCED_BRACE: return "unbalanced `}`";
+    case EON_UNBALANCED_PAREN: return "unbalanced `)`";
+    case EON_NAMELESS: return "nameless";
+    case EON_NO_VALUE: return "no value";
+    case EON_MISMATCH: return "mismatch";
+    case EON_CUT_OFF: return "cut off";
+    case EON_SURPLUS: return "surplus";
+    case EON_NO_SPACE: return "no space";
+    case EON_STALE: return "stale";
+    case EON_BAD_SETTINGS: return "bad settings";
+    case EON_NO_OPENING_QUOTE: return "no opening quote";
+    case EON_NO_CLOSING_QUOTE: return "no closing quote";
+    case EON_LINE_BREAK: return "line break in a one-line string";
+    case EON_ENDS_IN_BACKSLASH: return "ends in a backslash";
+    case EON_UNKNOWN_ESCAPE: return "unknown escape";
+    case EON_NO_BRACE: return "`\\u` without `{`";
+    case EON_NINTH_DIGIT: return "ninth hex digit";
+    case EON_FOREIGN_CHARACTER: return "foreign character in `\\u{..}`";
+    case EON_NOT_CLOSED: return "`\\u{..}` not closed";
+    case EON_NO_SCALAR_VALUE: return "not a Unicode scalar value";
+    default: return "unknown refusal";
+    }
+}
+
+/* A byte's place as an editor shows it: both count from 1, columns in characters. */
+typedef struct eon_line_column {
+    size_t line;
+    size_t column;
+} eon_line_column;
+
+/* A place behind the text counts as its end. */
+static inline eon_line_column eon_line_column_of(const uint8_t *text, size_t text_len, uint64_t at) {
+    eon_line_column place = {1, 1};
+    for (size_t i = 0; i < text_len && i < at; i++) {
+        if (text[i] == '\n') {
+            place.line++;
+            place.column = 1;
+        } else if ((text[i] & 0xC0) != 0x80) {
+            place.column++;
+        }
+    }
+    return place;
+}
 
 #ifdef __cplusplus
 }

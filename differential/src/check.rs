@@ -1,12 +1,9 @@
 //! One case, asked of both: every answer, and every word and byte of lent memory.
 
 use crate::lent::{Behind, Lent};
-use eon::{Part, Refusal, Settings, Slice};
+use eon::{Part, Refusal, RefusalKind, Settings, Slice, TokenKind};
 use oracle::{Case, Options};
 use std::fmt::Debug;
-
-const NO_SPACE: u32 = 14;
-const STALE: u32 = 15;
 
 /// Room beyond what an answer needs.
 const SPARE: usize = 7;
@@ -54,7 +51,11 @@ impl Checker {
                 }
                 for room in [words.len() - 1, 0] {
                     let answer = eon::read(text, self.table.lend(room));
-                    same("read, too short a table", answer, Err(bare(NO_SPACE)))?;
+                    same(
+                        "read, too short a table",
+                        answer,
+                        Err(bare(RefusalKind::NoSpace)),
+                    )?;
                     self.table.unchanged()?;
                 }
             }
@@ -86,7 +87,11 @@ impl Checker {
                 if !bytes.is_empty() {
                     let out = self.out.lend(bytes.len() - 1);
                     let answer = eon::format(text, self.table.words(), &settings, out);
-                    same("format, too short an output", answer, Err(bare(NO_SPACE)))?;
+                    same(
+                        "format, too short an output",
+                        answer,
+                        Err(bare(RefusalKind::NoSpace)),
+                    )?;
                     self.out.unchanged()?;
                 }
                 self.table.holds(&words)?;
@@ -121,7 +126,11 @@ impl Checker {
         for room in [0, needed + SPARE] {
             for table in [&damaged(words)[..], &words[..words.len() - 1]] {
                 let answer = eon::format(text, table, settings, self.out.lend(room));
-                same("format by a stale table", answer, Err(bare(STALE)))?;
+                same(
+                    "format by a stale table",
+                    answer,
+                    Err(bare(RefusalKind::Stale)),
+                )?;
                 self.out.unchanged()?;
             }
         }
@@ -148,14 +157,22 @@ impl Checker {
             let table = self.table.lend(words.len());
             let out = self.out.lend(bytes.len() - 1);
             let answer = eon::reformat(text, table, settings, out);
-            same("reformat, too short an output", answer, Err(bare(NO_SPACE)))?;
+            same(
+                "reformat, too short an output",
+                answer,
+                Err(bare(RefusalKind::NoSpace)),
+            )?;
             self.table.unchanged()?;
             self.out.unchanged()?;
         }
         let table = self.table.lend(words.len() - 1);
         let out = self.out.lend(bytes.len());
         let answer = eon::reformat(text, table, settings, out);
-        same("reformat, too short a table", answer, Err(bare(NO_SPACE)))?;
+        same(
+            "reformat, too short a table",
+            answer,
+            Err(bare(RefusalKind::NoSpace)),
+        )?;
         self.table.unchanged()?;
         self.out.unchanged()
     }
@@ -204,7 +221,11 @@ impl Checker {
                 }
                 if !value.is_empty() {
                     let answer = eon::unquote_part(quoted, self.out.lend(value.len() - 1));
-                    same("unquote, too short a scratch", answer, Err(bare(NO_SPACE)))?;
+                    same(
+                        "unquote, too short a scratch",
+                        answer,
+                        Err(bare(RefusalKind::NoSpace)),
+                    )?;
                     self.out.unchanged()?;
                 }
             }
@@ -233,10 +254,10 @@ impl Checker {
         // The first text's refusals come first, 15 among them.
         let a_refused = a_read.as_ref().err().copied().map(refusal_of);
         let b_refused = b_read.as_ref().err().copied().map(refusal_of);
-        let first = a_refused.unwrap_or(bare(STALE));
+        let first = a_refused.unwrap_or(bare(RefusalKind::Stale));
         let answer = eon::compare(a, &damaged(a_words), b, b_table);
         same("compare by a stale first table", answer, Err(first))?;
-        let second = a_refused.or(b_refused).unwrap_or(bare(STALE));
+        let second = a_refused.or(b_refused).unwrap_or(bare(RefusalKind::Stale));
         let answer = eon::compare(a, a_table, b, &damaged(b_words));
         same("compare by a stale second table", answer, Err(second))?;
         self.table.holds(a_words)?;
@@ -266,22 +287,27 @@ fn number_of<T>(answer: &Result<T, oracle::Refusal>) -> Number {
 
 fn refusal_of(refusal: oracle::Refusal) -> Refusal {
     Refusal {
-        number: refusal.number,
+        kind: RefusalKind::of_number(refusal.number),
         start: refusal.start as usize,
         end: refusal.end as usize,
-        expected: refusal.expected,
-        found: refusal.found,
+        expected: token_kind(refusal.expected),
+        found: token_kind(refusal.found),
     }
 }
 
+/// 0 names none.
+fn token_kind(number: u32) -> Option<TokenKind> {
+    (number != 0).then(|| TokenKind::of_number(number))
+}
+
 /// A refusal of no place.
-fn bare(number: u32) -> Refusal {
+fn bare(kind: RefusalKind) -> Refusal {
     Refusal {
-        number,
+        kind,
         start: 0,
         end: 0,
-        expected: 0,
-        found: 0,
+        expected: None,
+        found: None,
     }
 }
 
