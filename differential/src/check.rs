@@ -44,6 +44,7 @@ impl Checker {
         match wanted {
             Ok(words) => {
                 let records = words.len() / eon::RECORD_WORDS;
+                suffices("the table", words.len(), eon::table_words(text.len()))?;
                 for spare in [0, SPARE] {
                     let answer = eon::read(text, self.table.lend(words.len() + spare));
                     same("read", answer, Ok(records))?;
@@ -78,6 +79,9 @@ impl Checker {
         self.table.lend_after(&words, SPARE);
         match &wanted {
             Ok(bytes) => {
+                if settings == Settings::default() {
+                    suffices("the output", bytes.len(), eon::layout_bytes(text.len()))?;
+                }
                 for spare in [0, SPARE] {
                     let out = self.out.lend(bytes.len() + spare);
                     let answer = eon::format(text, self.table.words(), &settings, out);
@@ -219,6 +223,11 @@ impl Checker {
                     same("unquote", answer, Ok(part))?;
                     self.out.holds(&value)?;
                 }
+                suffices("the scratch", value.len(), quoted.len())?;
+                same("show", part.show(quoted, &value), &value)?;
+                let len = value.len() + 1;
+                let beyond = Part { len, ..part }.show(quoted, &value);
+                same("show beyond the scratch", beyond, b"")?;
                 if !value.is_empty() {
                     let answer = eon::unquote_part(quoted, self.out.lend(value.len() - 1));
                     same(
@@ -278,6 +287,16 @@ fn same<T: PartialEq + Debug>(call: &str, ours: T, original: T) -> Result<(), St
     }
     Err(format!(
         "{call}\n  ours:     {ours:?}\n  original: {original:?}"
+    ))
+}
+
+/// The room that the crate says is enough for any text of that length.
+fn suffices(memory: &str, needed: usize, room: usize) -> Result<(), String> {
+    if needed <= room {
+        return Ok(());
+    }
+    Err(format!(
+        "{memory} needs {needed}, and {room} should suffice"
     ))
 }
 
