@@ -1,96 +1,92 @@
-//! The calls that are measured, each ready to be made again and again.
+//! The calls that are measured, each ready to be made again and again. Memory is lent once and not
+//! cleared between the calls.
 
 use eon::Settings;
-use eon_syntax::{FormatOptions, TokenTree};
 use std::hint::black_box;
 
-/// A call on both sides. Memory is lent once and not cleared between the calls.
-pub struct Call {
-    pub name: &'static str,
-    pub ours: fn(&str) -> Box<dyn FnMut() + '_>,
-    pub original: fn(&str) -> Box<dyn FnMut() + '_>,
+pub type Call<'a> = Box<dyn FnMut() + 'a>;
+
+/// `original` runs over the compiled lexer, `general` over the oracle's automaton.
+pub const SIDES: [&str; 3] = ["ours", "original", "general"];
+
+pub fn call<'a>(side: &str, name: &str, text: &'a str) -> Option<Call<'a>> {
+    match side {
+        "ours" => ours(name, text),
+        "original" => original::call(name, text),
+        "general" => general::call(name, text),
+        _ => None,
+    }
 }
 
-pub const READ: Call = Call {
-    name: "read",
-    ours: |text| {
-        let mut table = table(text);
-        Box::new(move || {
-            let _ = black_box(eon::read(black_box(text.as_bytes()), &mut table));
-        })
-    },
-    original: |text| {
-        Box::new(move || {
-            let text = checked(text);
-            let _ = black_box(text.map(TokenTree::parse_str));
-        })
-    },
-};
-
-pub const FORMAT: Call = Call {
-    name: "format",
-    ours: |text| {
-        let (mut table, mut out) = (table(text), out(text));
-        let _ = eon::read(text.as_bytes(), &mut table);
-        let settings = Settings::default();
-        Box::new(move || {
-            let text = black_box(text.as_bytes());
-            let _ = black_box(eon::format(text, &table, &settings, &mut out));
-        })
-    },
-    original: |text| {
-        let tree = TokenTree::parse_str(text).ok();
-        let options = FormatOptions::default();
-        Box::new(move || {
-            black_box(black_box(&tree).as_ref().map(|tree| tree.format(&options)));
-        })
-    },
-};
-
-pub const REFORMAT: Call = Call {
-    name: "reformat",
-    ours: |text| {
-        let (mut table, mut out) = (table(text), out(text));
-        let settings = Settings::default();
-        Box::new(move || {
-            let text = black_box(text.as_bytes());
+fn ours<'a>(name: &str, text: &'a str) -> Option<Call<'a>> {
+    let text = text.as_bytes();
+    let mut table = vec![0; eon::table_words(text.len())];
+    let mut out = vec![0; 64 * text.len()];
+    let settings = Settings::default();
+    match name {
+        "read" => Some(Box::new(move || {
+            let _ = black_box(eon::read(black_box(text), &mut table));
+        })),
+        "format" => {
+            let _ = eon::read(text, &mut table);
+            Some(Box::new(move || {
+                let _ = black_box(eon::format(black_box(text), &table, &settings, &mut out));
+            }))
+        }
+        "reformat" => Some(Box::new(move || {
+            let text = black_box(text);
             let _ = black_box(eon::reformat(text, &mut table, &settings, &mut out));
-        })
-    },
-    original: |text| {
-        let options = FormatOptions::default();
-        Box::new(move || {
-            let text = checked(text);
-            let _ = black_box(text.map(|text| eon_syntax::reformat(text, &options)));
-        })
-    },
-};
-
-pub const UNQUOTE: Call = Call {
-    name: "unquote",
-    ours: |text| {
-        let mut scratch = vec![0; text.len()];
-        Box::new(move || {
-            let _ = black_box(eon::unquote(black_box(text.as_bytes()), &mut scratch));
-        })
-    },
-    original: |text| {
-        Box::new(move || {
-            let text = checked(text);
-            let _ = black_box(text.map(eon_syntax::unescape_and_unquote));
-        })
-    },
-};
-
-pub const ALL: [Call; 4] = [READ, FORMAT, REFORMAT, UNQUOTE];
-
-fn table(text: &str) -> Vec<u32> {
-    vec![0; eon::table_words(text.len())]
+        })),
+        "unquote" => Some(Box::new(move || {
+            let _ = black_box(eon::unquote(black_box(text), &mut out));
+        })),
+        // A text that does not begin with a quote is refused by 17 right after the check.
+        "utf8" => Some(Box::new(move || {
+            let _ = black_box(eon::unquote(black_box(text), &mut []));
+        })),
+        _ => None,
+    }
 }
 
-fn out(text: &str) -> Vec<u8> {
-    vec![0; 64 * text.len()]
+/// The original's calls, alike for its two builds, whose types differ.
+macro_rules! original {
+    ($module:ident, $crate_name:ident) => {
+        mod $module {
+            use super::{Call, checked};
+            use std::hint::black_box;
+            use $crate_name::{FormatOptions, TokenTree};
+
+            pub fn call<'a>(name: &str, text: &'a str) -> Option<Call<'a>> {
+                let options = FormatOptions::default();
+                match name {
+                    "read" => Some(Box::new(move || {
+                        let _ = black_box(checked(text).map(TokenTree::parse_str));
+                    })),
+                    "format" => {
+                        let tree = TokenTree::parse_str(text).ok();
+                        Some(Box::new(move || {
+                            black_box(black_box(&tree).as_ref().map(|tree| tree.format(&options)));
+                        }))
+                    }
+                    "reformat" => Some(Box::new(move || {
+                        let text = checked(text);
+                        let _ = black_box(text.map(|text| $crate_name::reformat(text, &options)));
+                    })),
+                    "unquote" => Some(Box::new(move || {
+                        let _ = black_box(checked(text).map($crate_name::unescape_and_unquote));
+                    })),
+                    "utf8" => Some(Box::new(move || {
+                        black_box(checked(text));
+                    })),
+                    _ => None,
+                }
+            }
+        }
+    };
 }
+
+original!(original, eon_syntax_compiled);
+original!(general, eon_syntax_general);
 
 /// The original takes text that is checked already; the check is counted with it.
 fn checked(text: &str) -> Option<&str> {

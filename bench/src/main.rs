@@ -1,5 +1,5 @@
 //! `bench times` prints times; `bench SIDE CALL SHAPE BYTES REPEATS` makes one call so often, for
-//! callgrind. See docs/BENCHMARKS.md.
+//! callgrind; `bench list` prints the rows. See docs/BENCHMARKS.md.
 
 mod calls;
 mod texts;
@@ -10,49 +10,54 @@ use std::time::{Duration, Instant};
 use texts::Shape;
 
 const USAGE: &str = "usage: bench times
-       bench ours|original read|format|reformat|unquote SHAPE BYTES REPEATS
-       bench list";
+       bench list
+       bench ours|original|general read|format|reformat|unquote|utf8 SHAPE BYTES REPEATS";
 
 /// The largest is a multiple of 8, so that marks in a row come out even as in the others.
 const SIZES: [usize; 3] = [1024, 8192, 65528];
 
-/// The best of so many rounds is taken, since others use the machine too.
-const ROUNDS: usize = 7;
+/// The best of so many batches is taken, since others use the machine too.
+const ROUNDS: usize = 20;
 
-const ROUND: Duration = Duration::from_millis(10);
+/// A batch takes at least so long.
+const BATCH: Duration = Duration::from_millis(2);
 
 fn main() -> ExitCode {
     let arguments: Vec<String> = std::env::args().skip(1).collect();
     let arguments: Vec<&str> = arguments.iter().map(String::as_str).collect();
-    let done = match arguments[..] {
-        ["times"] => Some(each_row(print_times)),
-        ["list"] => Some(each_row(|call, shape, bytes| {
-            println!("{}\t{shape}\t{bytes}", call.name);
-        })),
-        [side, call, shape, bytes, repeats] => repeat(side, call, shape, bytes, repeats),
-        _ => None,
-    };
-    if done.is_none() {
-        eprintln!("{USAGE}");
-        return ExitCode::FAILURE;
+    match arguments[..] {
+        ["times"] => each_row(print_times),
+        ["list"] => each_row(|call, shape, bytes| println!("{call}\t{shape}\t{bytes}")),
+        [side, call, shape, bytes, repeats] => {
+            if repeat(side, call, shape, bytes, repeats).is_none() {
+                return usage();
+            }
+        }
+        _ => return usage(),
     }
     ExitCode::SUCCESS
 }
 
-fn each_row(mut row: impl FnMut(&Call, &str, usize)) {
-    for call in [calls::READ, calls::FORMAT, calls::REFORMAT] {
+fn usage() -> ExitCode {
+    eprintln!("{USAGE}");
+    ExitCode::FAILURE
+}
+
+fn each_row(mut row: impl FnMut(&str, &str, usize)) {
+    for call in ["read", "format", "reformat"] {
         for shape in &texts::USUAL {
-            each_size(|bytes| row(&call, shape.name, bytes));
+            each_size(|bytes| row(call, shape.name, bytes));
         }
     }
     for shape in ["escapes", "no escapes"] {
-        each_size(|bytes| row(&calls::UNQUOTE, shape, bytes));
+        each_size(|bytes| row("unquote", shape, bytes));
     }
     for shape in &texts::HARD {
-        each_size(|bytes| row(&calls::READ, shape.name, bytes));
+        each_size(|bytes| row("read", shape.name, bytes));
     }
-    // Refused by 17 right after the check of UTF-8, so this is what the check costs.
-    each_size(|bytes| row(&calls::UNQUOTE, "ascii letters", bytes));
+    for shape in ["ascii letters", "accents"] {
+        each_size(|bytes| row("utf8", shape, bytes));
+    }
 }
 
 fn each_size(row: impl FnMut(usize)) {
@@ -68,40 +73,65 @@ fn text(shape: &str, bytes: usize) -> Option<String> {
 }
 
 fn repeat(side: &str, call: &str, shape: &str, bytes: &str, repeats: &str) -> Option<()> {
-    let call = calls::ALL.into_iter().find(|known| known.name == call)?;
     let text = text(shape, bytes.parse().ok()?)?;
-    let mut made = match side {
-        "ours" => (call.ours)(&text),
-        "original" => (call.original)(&text),
-        _ => return None,
-    };
+    let mut call = calls::call(side, call, &text)?;
     for _ in 0..repeats.parse().ok()? {
-        made();
+        call();
     }
     Some(())
 }
 
-fn print_times(call: &Call, shape: &str, bytes: usize) {
+/// Microseconds a call. The sides take turns, so that what slows the machine slows them all.
+fn print_times(call: &str, shape: &str, bytes: usize) {
     let Some(text) = text(shape, bytes) else {
         return;
     };
-    let ours = best_time((call.ours)(&text));
-    let original = best_time((call.original)(&text));
-    println!("{}\t{shape}\t{bytes}\t{ours:.2}\t{original:.2}", call.name);
+    let sides = calls::SIDES.into_iter();
+    let mut timed: Vec<Timed> = sides
+        .filter_map(|side| calls::call(side, call, &text))
+        .map(Timed::new)
+        .collect();
+    for _ in 0..ROUNDS {
+        timed.iter_mut().for_each(Timed::run);
+    }
+    print!("{call}\t{shape}\t{bytes}");
+    for side in timed {
+        print!("\t{:.2}", side.best * 1e6);
+    }
+    println!();
 }
 
-/// Microseconds a call.
-fn best_time(mut call: impl FnMut()) -> f64 {
-    call();
-    let mut best = f64::INFINITY;
-    for _ in 0..ROUNDS {
-        let start = Instant::now();
-        let mut calls = 0;
-        while start.elapsed() < ROUND {
-            call();
-            calls += 1;
+struct Timed<'a> {
+    call: Call<'a>,
+    /// Calls in a batch.
+    batch: u32,
+    /// Seconds a call in the best batch.
+    best: f64,
+}
+
+impl<'a> Timed<'a> {
+    fn new(call: Call<'a>) -> Self {
+        let mut timed = Self {
+            call,
+            batch: 1,
+            best: f64::INFINITY,
+        };
+        while timed.batch_time() < BATCH {
+            timed.batch *= 2;
         }
-        best = best.min(start.elapsed().as_secs_f64() * 1e6 / f64::from(calls));
+        timed
     }
-    best
+
+    fn run(&mut self) {
+        let time = self.batch_time().as_secs_f64() / f64::from(self.batch);
+        self.best = self.best.min(time);
+    }
+
+    fn batch_time(&mut self) -> Duration {
+        let start = Instant::now();
+        for _ in 0..self.batch {
+            (self.call)();
+        }
+        start.elapsed()
+    }
 }
