@@ -9,6 +9,7 @@ pub mod Token
 pub mod Word
 pub mod Parse
 pub mod Records
+pub mod Bytes
 pub mod Sources
 pub mod Words
 pub mod Places
