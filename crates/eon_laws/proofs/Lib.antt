@@ -14,6 +14,7 @@ pub mod Sources
 pub mod Words
 pub mod Places
 pub mod Spans
+pub mod LayoutLength
 pub mod Encode
 pub mod Shown
 pub mod Compare
