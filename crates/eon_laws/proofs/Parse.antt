@@ -1,4 +1,4 @@
--- Reading never runs out of fuel, and each refusal has a number: 0 is never answered.
+-- Reading never runs out of fuel, and each of its refusals has a number from 3 to 13.
 use mathlib.Core.Path.{_≡_, refl}
 use mathlib.Core.Bool.{Bool, true, false, _&&_, not, cond}
 use mathlib.Core.List.{List, [], _∷_}
@@ -12,15 +12,19 @@ use Rattle.eon_spec.specs.Tree.{Span, Slice, TokenTree}
 use Rattle.eon_spec.specs.declared.Refusal.{Refusal}
 use Rattle.eon_spec.specs.Parse.{Cursor, behind, rest, Read, read, refused, Reader, bind, listContents, mapContents, listInside, mapInside, commentsAt, parseComments, consumeToken, stringOrVariant, valueOf, treeBehind, treeWith, valueAt, insideAt, atEnd, afterComma, suffixComment, nextIs, skip, spanOf, TokenList, TokenMap, Parsed, parsed, refusedBy, noneLeft, topOf, parseTop}
 
--- at most n tokens are left; a refusal has a number
+-- "reading (3 to 13)"
+abbrev pub Listed : Refusal → Type 0
+Listed r = (3 ≤ r .number) × (r .number ≤ 13)
+
+-- at most n tokens are left; a refusal has its number
 abbrev pub Good : {A : Type 0} → ℕ → Read A → Type 0
 Good n (read a d) = length (rest d) ≤ n
-Good n (refused r l) = 0 < r .number
+Good n (refused r l) = Listed r
 
 -- fewer than n are left
 abbrev pub Strict : {A : Type 0} → ℕ → Read A → Type 0
 Strict n (read a d) = length (rest d) < n
-Strict n (refused r l) = 0 < r .number
+Strict n (refused r l) = Listed r
 
 abbrev pub Progresses : Reader → Type 0
 Progresses value = (c : Cursor) → Strict (length (rest c)) (value c)
@@ -90,13 +94,13 @@ comma-le v c = go (nextIs Comma c) refl
 
 pub consume-good : (k : TokenKind) (c : Cursor) → Good (length (rest c)) (consumeToken k c)
 unfolding consumeToken
-consume-good k (behind l []) = omega arith
+consume-good k (behind l []) = (omega arith, omega arith)
 consume-good k (behind l (t ∷ ts)) = go (isKind (t .kind) Invalid) (isKind (t .kind) k) refl refl
   where
     go : (x y : Bool) → isKind (t .kind) Invalid ≡ x → isKind (t .kind) k ≡ y → Good (suc (length ts)) (consumeToken k (behind l (t ∷ ts)))
-    go true y e f = rw (e, consumeToken) (omega arith)
+    go true y e f = rw (e, consumeToken) (omega arith, omega arith)
     go false true e f = rw (e, consumeToken, f) (omega arith)
-    go false false e f = rw (e, consumeToken, f) (omega arith)
+    go false false e f = rw (e, consumeToken, f) (omega arith, omega arith)
 
 module _ (value : Reader) (pr : Progresses value) where
   list-good : (f : ℕ) (c : Cursor) → length (rest c) < f → Good (length (rest c)) (listContents value f c)
@@ -154,22 +158,22 @@ module _ (value : Reader) (pr : Progresses value) where
 
   value-good : (k : TokenKind) (t : Token) (c : Cursor) → isKind k Comment ≡ false → Good (length (rest c)) (valueOf value k t c)
   unfolding valueOf
-  value-good Invalid t c n = omega arith
+  value-good Invalid t c n = (omega arith, omega arith)
   value-good Comment t c n = absurd (let y : _≡_ {A = ℕ} 0 1 = cc in omega arith)
   value-good OpenList t c n =
       bind-good (length (rest c)) (length (rest c)) (listInside value c) _ (listInside-good c) λ l c1 h1.
       bind-good (length (rest c1)) (length (rest c)) (consumeToken CloseList c1) _ (consume-good CloseList c1) λ _ c2 h2.
       omega arith
-  value-good CloseList t c n = omega arith
+  value-good CloseList t c n = (omega arith, omega arith)
   value-good OpenBrace t c n =
       bind-good (length (rest c)) (length (rest c)) (mapInside value c) _ (mapInside-good c) λ l c1 h1.
       bind-good (length (rest c1)) (length (rest c)) (consumeToken CloseBrace c1) _ (consume-good CloseBrace c1) λ _ c2 h2.
       omega arith
-  value-good CloseBrace t c n = omega arith
-  value-good OpenParen t c n = omega arith
-  value-good CloseParen t c n = omega arith
-  value-good Colon t c n = omega arith
-  value-good Comma t c n = omega arith
+  value-good CloseBrace t c n = (omega arith, omega arith)
+  value-good OpenParen t c n = (omega arith, omega arith)
+  value-good CloseParen t c n = (omega arith, omega arith)
+  value-good Colon t c n = (omega arith, omega arith)
+  value-good Comma t c n = (omega arith, omega arith)
   value-good Identifier t c n = omega arith
   value-good Number t c n = omega arith
   value-good DoubleQuotedString t c n = string-good t c
@@ -179,7 +183,7 @@ module _ (value : Reader) (pr : Progresses value) where
 
   behind-good : (len : ℕ) (p : List Slice) (c : Cursor) → NoComment c → Strict (length (rest c)) (treeBehind len value p c)
   unfolding treeBehind NoComment
-  behind-good len p (behind l []) n = omega arith
+  behind-good len p (behind l []) n = (omega arith, omega arith)
   behind-good len p (behind l (t ∷ ts)) n =
       bind-strict (length ts) (suc (length ts)) (valueOf value (t .kind) t (behind (spanOf t) ts)) _ (value-good (t .kind) t (behind (spanOf t) ts) n) λ v c1 h1.
       let a = suffix-le c1 in
@@ -200,30 +204,30 @@ module _ (len : ℕ) where
     unfolding valueAt
 
     pub valueAt-good : (d : ℕ) → Progresses (valueAt len d)
-    valueAt-good zero c = omega arith
+    valueAt-good zero c = (omega arith, omega arith)
     valueAt-good (suc d) c = tree-good (insideAt len d) (λ x. insideAt-good d x) c
 
     pub insideAt-good : (d : ℕ) → Progresses (insideAt len d)
-    insideAt-good zero c = omega arith
+    insideAt-good zero c = (omega arith, omega arith)
     insideAt-good (suc d) c = valueAt-good d c
 
--- what reading answers: a tree, or a refusal with a number
+-- what reading answers: a tree, or a refusal with its number
 abbrev pub Numbered : Parsed → Type 0
 Numbered (parsed t) = Unit {0}
-Numbered (refusedBy r) = 0 < r .number
+Numbered (refusedBy r) = Listed r
 
-cond-number : (b : Bool) (r q : Refusal) → 0 < r .number → 0 < q .number → 0 < (cond b r q) .number
+cond-number : (b : Bool) (r q : Refusal) → Listed r → Listed q → Listed (cond b r q)
 cond-number true r q g h = g
 cond-number false r q g h = h
-
-cond-pos : (b : Bool) (m n : ℕ) → 0 < m → 0 < n → 0 < cond b m n
-cond-pos true m n g h = g
-cond-pos false m n g h = h
 
 none-left : (c : Cursor) (t : TokenTree) → Numbered (noneLeft c t)
 unfolding noneLeft
 none-left (behind l []) t = tt
-none-left (behind l (x ∷ xs)) t = cond-pos (isKind (x .kind) Invalid) 3 13 (omega arith) (omega arith)
+none-left (behind l (x ∷ xs)) t = go (isKind (x .kind) Invalid)
+  where
+    go : (b : Bool) → (3 ≤ cond b 3 13) × (cond b 3 13 ≤ 13)
+    go true = (omega arith, omega arith)
+    go false = (omega arith, omega arith)
 
 top-numbered : (len n : ℕ) (m : Read TokenMap) (l : Read TokenList) → Good n m → Good n l → Numbered (topOf len m l)
 top-numbered len n (read m c) l g h = none-left c _
