@@ -1,47 +1,82 @@
--- Memory that is never too short: with so much room for its text, a call answers what it would with any more, and 14 is not among it.
+-- Memory that is never too short: with so much room for its text, a call answers what the text gives, and 14 is no part of that.
 use mathlib.Core.Path.{_≡_, refl, ap}
-use mathlib.Core.Bool.{Bool, true, false, _&&_}
-use mathlib.Core.List.{List}
+use mathlib.Core.Bool.{Bool, true, false, cond}
+use mathlib.Core.List.{List, []}
 use Prim.Native.Nat.{ℕ, suc, _*_, _≤_}
 use native.Mathlib.Omega.{arith}
 use lib.ListN.{length}
-use lib.Dec.{leb, ltb}
+use lib.Dec.{ltb}
 use borrow.Author.Tests.{le-leb}
 use Rattle.eon_spec.specs.declared.Refusal.{Refusal}
+use Rattle.eon_spec.specs.declared.Which.the-variants.{Quoted, Scratch}
 use Rattle.eon_spec.specs.Utf8.{isUtf8, wellFormedLen, wellFormedFrom, charLen}
 use Rattle.eon_spec.specs.Tree.{TokenTree}
+use Rattle.eon_spec.specs.Token.{tokens}
 use Rattle.eon_spec.specs.Parse.{Parsed, parsed, refusedBy, parse}
 use Rattle.eon_spec.specs.Records.{treeRecords, words}
 use Rattle.eon_spec.specs.Layout.{defaults, defaultOptions, format}
-use Rattle.eon_spec.specs.Calls.{Outcome, done, refusedWith, then, after, nowhere, checked, parsedOutcome, readText, written, fill, fillBoth, readCall, isFinished, readFinished, goodSettings, checkedSettings, formatCall, reformatCall}
+use Rattle.eon_spec.specs.Unquote.{Unescaped, value, fault, unquote}
+use Rattle.eon_spec.specs.Calls.{Outcome, done, refusedWith, then, after, nowhere, checked, parsedOutcome, readText, written, fill, fillBoth, readCall, isFinished, readFinished, goodSettings, checkedSettings, formatCall, reformatCall, Part, partOf, isPart, opening, unescapedOutcome, handedBack, unquoteCall}
+use Rattle.eon_laws.proofs.Facts.{either}
+use Rattle.eon_laws.proofs.Parse.{Numbered, parse-numbered}
 use Rattle.eon_laws.proofs.Records.{words-length}
 use Rattle.eon_laws.proofs.Spans.{few-records}
 use Rattle.eon_laws.proofs.LayoutLength.{layout-length}
+use Rattle.eon_laws.proofs.UnquoteLength.{Unquoted, unquote-length}
+
+-- a refusal for another reason than room
+abbrev pub Other : Refusal → Type 0
+Other r = r .number ≡ 14 → ⊥
+
+-- answered, or refused for another reason than room
+abbrev pub Enough : {A : Type 0} → Outcome A → Type 0
+Enough (done a) = Unit {0}
+Enough (refusedWith r) = Other r
 
 -- ---- what a text gives, by cases
 
-checked-cases : {A : Type 0} (s : List ℕ) (f : List ℕ → Outcome A) (P : Outcome A → Type 0) → ((r : Refusal) → P (refusedWith r)) → (isUtf8 s ≡ true → P (f s)) → P (checked s f)
+checked-cases : {A : Type 0} (s : List ℕ) (f : List ℕ → Outcome A) (P : Outcome A → Type 0) → ((r : Refusal) → Other r → P (refusedWith r)) → (isUtf8 s ≡ true → P (f s)) → P (checked s f)
 unfolding checked
-checked-cases s f P refuses accepts = go (ltb 65535 (length s)) (isUtf8 s) refl refl
-  where
-    go : (x y : Bool) → ltb 65535 (length s) ≡ x → isUtf8 s ≡ y → P (checked s f)
-    go true y e g = rw (e, checked) (refuses _)
-    go false true e g = rw (e, checked, g) (accepts g)
-    go false false e g = rw (e, checked, g) (refuses _)
+checked-cases s f P refuses accepts =
+    either (ltb 65535 (length s)) P _ _ (λ e. refuses _ (λ e. omega arith)) (λ e. either (isUtf8 s) P _ _ accepts (λ e. refuses _ (λ e. omega arith)))
 
-read-cases : (s : List ℕ) (P : Outcome TokenTree → Type 0) → ((r : Refusal) → P (refusedWith r)) → (isUtf8 s ≡ true → (t : TokenTree) → parse s ≡ parsed t → P (done t)) → P (readText s)
-unfolding readText
-read-cases s P refuses accepts = checked-cases s (λ t. parsedOutcome (parse t)) P refuses λ formed. go (accepts formed) (parse s) refl
-  where
-    go : ((t : TokenTree) → parse s ≡ parsed t → P (done t)) → (p : Parsed) → parse s ≡ p → P (parsedOutcome (parse s))
-    go accepts (parsed t) e = rw e (accepts t e)
-    go accepts (refusedBy r) e = rw e (refuses r)
+module _ (s : List ℕ) (P : Outcome TokenTree → Type 0) (refuses : (r : Refusal) → Other r → P (refusedWith r)) (accepts : isUtf8 s ≡ true → (t : TokenTree) → parse s ≡ parsed t → P (done t)) where
+  read-cases : P (readText s)
+  unfolding readText parse
+  read-cases = checked-cases s (λ t. parsedOutcome (parse t)) P refuses λ formed. go formed (parse s) refl (parse-numbered (length s) (tokens s))
+    where
+      go : isUtf8 s ≡ true → (p : Parsed) → parse s ≡ p → Numbered p → P (parsedOutcome p)
+      go formed (parsed t) e h = accepts formed t e
+      go formed (refusedBy r) e h = refuses r λ f. omega (arith, h .1)
+
+  finished-cases : (table : List ℕ) → P (readFinished s table)
+  unfolding readFinished
+  finished-cases table = go (readText s) read-cases
+    where
+      go : (x : Outcome TokenTree) → P x → P (then x λ t. elim (isFinished table t) [ true ↦ done t | false ↦ refusedWith (nowhere 15) ])
+      go (done t) h = either (isFinished table t) P _ _ (λ e. h) (λ e. refuses (nowhere 15) λ e. omega arith)
+      go (refusedWith r) h = h
 
 -- ---- what fits is written
 
 pub fits-memory : {A : Type 0} (a : A) (new old : List ℕ) → length new ≤ length old → fill old (done (a, new)) ≡ after (done a) (written new old)
 unfolding fill
 fits-memory a new old h = rw (le-leb (length new) (length old) h, fill)
+
+-- what w writes for b fits
+abbrev Fits : {A B : Type 0} → List ℕ → (B → A × List ℕ) → B → Type 0
+Fits old w b = length ((w b) .1) ≤ length old
+
+-- .. so that the answer is kept
+abbrev Kept : {A B : Type 0} → List ℕ → (B → A × List ℕ) → Outcome B → Type 0
+Kept old w x = (fill old (then x λ b. done (w b))) .answer ≡ then x λ b. done ((w b) .0)
+
+kept : {A B : Type 0} (old : List ℕ) (w : B → A × List ℕ) (b : B) → Fits old w b → Kept old w (done b)
+kept old w b h = ap (λ x. x .answer) (fits-memory ((w b) .0) ((w b) .1) old h)
+
+refused-kept : {A B : Type 0} (old : List ℕ) (w : B → A × List ℕ) (r : Refusal) → Other r → Kept old w (refusedWith r)
+unfolding fill
+refused-kept old w r o = refl
 
 good-defaults : goodSettings defaultOptions ≡ true
 unfolding isUtf8 wellFormedLen wellFormedFrom charLen
@@ -52,45 +87,78 @@ pub default-settings : {A : Type 0} (x : Outcome A) → checkedSettings defaultO
 unfolding checkedSettings
 default-settings x = rw (good-defaults, checkedSettings)
 
--- ---- the laws
+-- ---- the laws: what is answered, and that 14 is not
+
+answer-enough : {A B : Type 0} (a : Outcome A) (x : Outcome B) (f : B → A) → a ≡ (then x λ b. done (f b)) → Enough x → Enough a
+answer-enough a (done b) f e h = rw e tt
+answer-enough a (refusedWith r) f e h = rw e h
+
+text-enough : (s : List ℕ) → Enough (readText s)
+text-enough s = read-cases s Enough (λ r o. o) λ formed t e. tt
+
+finished-enough : (s table : List ℕ) → Enough (readFinished s table)
+finished-enough s table = finished-cases s Enough (λ r o. o) (λ formed t e. tt) table
 
 module _ (s table : List ℕ) where
-  -- the words of its records
   words-fit : 5 * suc (length s) ≤ length table → isUtf8 s ≡ true → (t : TokenTree) → parse s ≡ parsed t → length (words (treeRecords t)) ≤ length table
   words-fit h formed t e = rw (words-length (treeRecords t)) (omega (arith, few-records s formed t e))
 
   -- "a table of five words for each byte of the text, and five more, is never too short"
-  pub read-room : 5 * suc (length s) ≤ length table → (readCall s table) .answer ≡ then (readText s) λ t. done (length (treeRecords t))
-  unfolding readCall fill
-  read-room h =
-      read-cases s (λ x. (fill table (then x λ t. done (length (treeRecords t), words (treeRecords t)))) .answer ≡ then x λ t. done (length (treeRecords t))) (λ r. refl) λ formed t e.
-      rw (fits-memory (length (treeRecords t)) (words (treeRecords t)) table (words-fit h formed t e))
+  module _ (h : 5 * suc (length s) ≤ length table) where
+    pub read-room : (readCall s table) .answer ≡ then (readText s) λ t. done (length (treeRecords t))
+    unfolding readCall
+    read-room =
+        let w : TokenTree → ℕ × List ℕ = λ t. (length (treeRecords t), words (treeRecords t)) in
+        read-cases s (Kept table w) (refused-kept table w) λ formed t e. kept table w t (words-fit h formed t e)
 
+    pub read-enough : Enough ((readCall s table) .answer)
+    read-enough = answer-enough ((readCall s table) .answer) (readText s) (λ t. length (treeRecords t)) read-room (text-enough s)
+
+  -- "an output of 68 bytes for each byte of the text, and 68 more, is never too short"
   module _ (out : List ℕ) (room : 68 * suc (length s) ≤ length out) where
     bytes-fit : isUtf8 s ≡ true → (t : TokenTree) → parse s ≡ parsed t → length (format defaults t) ≤ length out
     bytes-fit formed t e = omega (arith, layout-length s formed t e)
 
-    -- "an output of 68 bytes for each byte of the text, and 68 more, is never too short"
     pub format-room : (formatCall s table defaultOptions out) .answer ≡ then (readFinished s table) λ t. done (length (format defaults t))
-    unfolding formatCall readFinished fill
+    unfolding formatCall
     format-room =
-        rw default-settings
-        (read-cases s
-        (λ x. (fill out (then (then x λ t. elim (isFinished table t) [ true ↦ done t | false ↦ refusedWith (nowhere 15) ]) λ t. done (length (format defaults t), format defaults t))) .answer
-        ≡ then (then x λ t. elim (isFinished table t) [ true ↦ done t | false ↦ refusedWith (nowhere 15) ]) λ t. done (length (format defaults t)))
-        (λ r. refl) λ formed t e.
-        go t (bytes-fit formed t e) (isFinished table t))
-      where
-        go : (t : TokenTree) → length (format defaults t) ≤ length out → (b : Bool)
-            → (fill out (then (elim b [ true ↦ done t | false ↦ refusedWith (nowhere 15) ]) λ t. done (length (format defaults t), format defaults t))) .answer
-            ≡ then (elim b [ true ↦ done t | false ↦ refusedWith (nowhere 15) ]) λ t. done (length (format defaults t))
-        go t h true = rw (fits-memory (length (format defaults t)) (format defaults t) out h)
-        go t h false = refl
+        let w : TokenTree → ℕ × List ℕ = λ t. (length (format defaults t), format defaults t) in
+        rw default-settings (finished-cases s (Kept out w) (refused-kept out w) (λ formed t e. kept out w t (bytes-fit formed t e)) table)
 
-    -- the same for reading and layout in one call
+    pub format-enough : Enough ((formatCall s table defaultOptions out) .answer)
+    format-enough = answer-enough ((formatCall s table defaultOptions out) .answer) (readFinished s table) (λ t. length (format defaults t)) format-room (finished-enough s table)
+
+    -- both, for reading and layout in one call
     pub reformat-room : 5 * suc (length s) ≤ length table → (reformatCall s table defaultOptions out) .answer ≡ then (readText s) λ t. done (length (format defaults t))
     unfolding reformatCall fillBoth
     reformat-room h =
         rw default-settings
-        (read-cases s (λ x. (fillBoth table out (then x λ t. done (words (treeRecords t), format defaults t))) .answer ≡ then x λ t. done (length (format defaults t))) (λ r. refl) λ formed t e.
+        (read-cases s (λ x. (fillBoth table out (then x λ t. done (words (treeRecords t), format defaults t))) .answer ≡ then x λ t. done (length (format defaults t))) (λ r o. refl) λ formed t e.
         rw (le-leb (length (words (treeRecords t))) (length table) (words-fit h formed t e), le-leb (length (format defaults t)) (length out) (bytes-fit formed t e), fillBoth))
+
+    pub reformat-enough : 5 * suc (length s) ≤ length table → Enough ((reformatCall s table defaultOptions out) .answer)
+    reformat-enough h = answer-enough ((reformatCall s table defaultOptions out) .answer) (readText s) (λ t. length (format defaults t)) (reformat-room h) (text-enough s)
+
+-- "a scratch as long as the quoted string is never too short"
+module _ (s scratch : List ℕ) (h : length s ≤ length scratch) where
+  part-fits : (b : List ℕ) → length b ≤ length s → Fits scratch (handedBack s) b
+  part-fits b k = go (isPart s) (partOf Quoted (opening s) (length b)) (partOf Scratch 0 (length b))
+    where
+      go : (x : Bool) (p q : Part) → length ((cond {A = Part × List ℕ} x (p, []) (q, b)) .1) ≤ length scratch
+      go true p q = omega arith
+      go false p q = omega arith
+
+  -- what the string gives, by cases
+  unquote-cases : (P : Outcome (List ℕ) → Type 0) → ((r : Refusal) → Other r → P (refusedWith r)) → ((b : List ℕ) → length b ≤ length s → P (done b)) → P (checked s λ t. unescapedOutcome (unquote t))
+  unquote-cases P refuses accepts = checked-cases s (λ t. unescapedOutcome (unquote t)) P refuses λ formed. go (unquote s) (unquote-length s formed)
+    where
+      go : (u : Unescaped) → Unquoted (length s) u → P (unescapedOutcome u)
+      go (value b) k = accepts b k
+      go (fault n) k = refuses (nowhere n) λ e. omega (arith, k .0)
+
+  pub unquote-room : (unquoteCall s scratch) .answer ≡ then (checked s λ t. unescapedOutcome (unquote t)) λ b. done ((handedBack s b) .0)
+  unfolding unquoteCall
+  unquote-room = unquote-cases (Kept scratch (handedBack s)) (refused-kept scratch (handedBack s)) λ b k. kept scratch (handedBack s) b (part-fits b k)
+
+  pub unquote-enough : Enough ((unquoteCall s scratch) .answer)
+  unquote-enough = answer-enough ((unquoteCall s scratch) .answer) (checked s λ t. unescapedOutcome (unquote t)) (λ b. (handedBack s b) .0) unquote-room (unquote-cases Enough (λ r o. o) λ b k. tt)

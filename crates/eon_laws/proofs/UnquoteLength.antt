@@ -80,7 +80,7 @@ escape-one : (c : ℕ) → OneByte (lookup c escapes)
 unfolding encodeChar
 escape-one c = lookup-one c escapes refl
 
--- the bytes of an escape that were passed over: `\\`, `\\u`, `\\u{` and digits
+-- the bytes of an escape that were passed over, at least: a backslash, `u` and `{`
 abbrev passed : Mode → ℕ
 passed plain = 0
 passed backslash = 1
@@ -88,37 +88,39 @@ passed blanks = 0
 passed unicode = 2
 passed (digits k n) = 3
 
--- one character more
+-- one character more, where k bytes were passed over before it
 module _ (c : ℕ) (s : List ℕ) (rec : (m : Mode) → Within (passed m + size s) (unescape m s)) where
+  abbrev Here : ℕ → Unescaped → Type 0
+  Here k = Within (k + size (c ∷ s))
+
   more : 1 + size s ≤ size (c ∷ s)
   more = let h = char-size c in omega (arith, size-cons c s, h .0)
 
-  go-on : (m : Mode) (k : ℕ) → passed m + size s ≤ k → Within k (unescape m s)
-  go-on m k h = grow (passed m + size s) k (unescape m s) h (rec m)
+  go-on : (k : ℕ) (m : Mode) → passed m ≤ suc k → Here k (unescape m s)
+  go-on k m h = grow (passed m + size s) (k + size (c ∷ s)) (unescape m s) (omega (arith, more)) (rec m)
 
-  give : (d k : ℕ) → length (encodeChar d) + size s ≤ k → Within k (push d (unescape plain s))
-  give d k h = push-within d (0 + size s) k (unescape plain s) (omega arith) (rec plain)
+  give : (k d : ℕ) → length (encodeChar d) ≤ suc k → Here k (push d (unescape plain s))
+  give k d h = push-within d (0 + size s) (k + size (c ∷ s)) (unescape plain s) (omega (arith, more)) (rec plain)
 
   -- in plain text
-  read-on : Within (0 + size (c ∷ s)) (elim (eqb c 92) [ true ↦ unescape backslash s | false ↦ push c (unescape plain s) ])
-  read-on = either (eqb c 92) (Within (0 + size (c ∷ s))) _ _ (λ e. go-on backslash (0 + size (c ∷ s)) (omega (arith, more))) (λ e. give c (0 + size (c ∷ s)) (omega (arith, size-cons c s)))
+  read-on : Here 0 (elim (eqb c 92) [ true ↦ unescape backslash s | false ↦ push c (unescape plain s) ])
+  read-on =
+      either (eqb c 92) (Here 0) _ _ (λ e. go-on 0 backslash (omega arith))
+      (λ e. push-within c (0 + size s) (0 + size (c ∷ s)) (unescape plain s) (omega (arith, size-cons c s)) (rec plain))
 
-  step : (m : Mode) → Within (passed m + size (c ∷ s)) (unescape m (c ∷ s))
+  step : (m : Mode) → Here (passed m) (unescape m (c ∷ s))
   unfolding unescape
   step plain = read-on
   step backslash =
-      found (lookup c escapes) OneByte (Within (1 + size (c ∷ s))) _ _ (escape-one c) (λ d q. give d (1 + size (c ∷ s)) (omega (arith, more)))
-      (either (eqb c 10) (Within (1 + size (c ∷ s))) _ _ (λ e. go-on blanks (1 + size (c ∷ s)) (omega (arith, more)))
-      (λ e. either (eqb c 117) (Within (1 + size (c ∷ s))) _ _ (λ e. go-on unicode (1 + size (c ∷ s)) (omega (arith, more))) (λ e. (omega arith, omega arith))))
-  step blanks =
-      either (elem c whiteSpace) (Within (0 + size (c ∷ s))) _ _ (λ e. go-on blanks (0 + size (c ∷ s)) (omega (arith, more))) (λ e. read-on)
-  step unicode = either (eqb c 123) (Within (2 + size (c ∷ s))) _ _ (λ e. go-on (digits 0 0) (2 + size (c ∷ s)) (omega (arith, more))) (λ e. (omega arith, omega arith))
+      found (lookup c escapes) OneByte (Here 1) _ _ (escape-one c) (λ d q. give 1 d (omega arith))
+      (either (eqb c 10) (Here 1) _ _ (λ e. go-on 1 blanks (omega arith)) (λ e. either (eqb c 117) (Here 1) _ _ (λ e. go-on 1 unicode (omega arith)) (λ e. (omega arith, omega arith))))
+  step blanks = either (elem c whiteSpace) (Here 0) _ _ (λ e. go-on 0 blanks (omega arith)) (λ e. read-on)
+  step unicode = either (eqb c 123) (Here 2) _ _ (λ e. go-on 2 (digits 0 0) (omega arith)) (λ e. (omega arith, omega arith))
   step (digits k n) =
-      either (eqb c 125) (Within (3 + size (c ∷ s))) _ _
-      (λ e. either (isScalar n) (Within (3 + size (c ∷ s))) _ _ (λ e. let h = char-size n in give n (3 + size (c ∷ s)) (omega (arith, more, h .1))) (λ e. (omega arith, omega arith)))
-      (λ e. found (hexDigit c) (λ o. Unit {0}) (Within (3 + size (c ∷ s))) _ _ tt
-      (λ d q. either (ltb k 8) (Within (3 + size (c ∷ s))) _ _ (λ e. go-on (digits (suc k) (n * 16 + d)) (3 + size (c ∷ s)) (omega (arith, more))) (λ e. (omega arith, omega arith)))
-      (either (eqb c 95) (Within (3 + size (c ∷ s))) _ _ (λ e. go-on (digits k n) (3 + size (c ∷ s)) (omega (arith, more))) (λ e. (omega arith, omega arith))))
+      either (eqb c 125) (Here 3) _ _ (λ e. either (isScalar n) (Here 3) _ _ (λ e. give 3 n ((char-size n) .1)) (λ e. (omega arith, omega arith)))
+      (λ e. found (hexDigit c) (λ o. Unit {0}) (Here 3) _ _ tt
+      (λ d q. either (ltb k 8) (Here 3) _ _ (λ e. go-on 3 (digits (suc k) (n * 16 + d)) (omega arith)) (λ e. (omega arith, omega arith)))
+      (either (eqb c 95) (Here 3) _ _ (λ e. go-on 3 (digits k n) (omega arith)) (λ e. (omega arith, omega arith))))
 
 unescape-within : (s : List ℕ) (m : Mode) → Within (passed m + size s) (unescape m s)
 unfolding unescape encode
