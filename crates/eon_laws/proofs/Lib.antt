@@ -15,6 +15,7 @@ pub mod Words
 pub mod Places
 pub mod Spans
 pub mod LayoutLength
+pub mod LayoutExamples
 pub mod UnquoteLength
 pub mod Room
 pub mod Encode
