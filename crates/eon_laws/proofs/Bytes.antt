@@ -1,14 +1,14 @@
 -- How many bytes of a text the tokens of a tree take, at least.
 use mathlib.Core.List.{List, [], _∷_, _++_}
 use mathlib.Core.Option.{Option, none, some}
-use mathlib.Core.Path.{_≡_, refl}
-use Prim.Native.Nat.{ℕ, suc, _+_, _*_, _≤_}
+use mathlib.Core.Path.{_≡_}
+use Prim.Native.Nat.{ℕ, suc, _+_, _≤_}
 use native.Mathlib.Omega.{arith}
 use lib.ListN.{length}
 use Rattle.eon_spec.specs.Tree.{Slice, TokenTree, TokenValue, TokenTrees, KeyValues, tree, identifier, number, quotedString, listOf, mapOf, variantOf, noTrees, _∷ᵗ_, noPairs, pair}
 use Rattle.eon_laws.proofs.Records.{suffixSize, treeSize, valueSize, treesSize, pairsSize}
 
--- a token with these bytes takes at least one
+-- the bytes that a token takes: at least one
 unfoldable pub held : List ℕ → ℕ
 held [] = 1
 held (x ∷ b) = suc (length b)
@@ -18,12 +18,7 @@ unfolding held
 held-some [] = omega arith
 held-some (x ∷ b) = omega arith
 
--- 67 bytes and its own are at most 68 for each byte of a token
-pub held-charge : (b : List ℕ) → length b + 67 ≤ 68 * held b
-unfolding held
-held-charge [] = omega arith
-held-charge (x ∷ b) = omega arith
-
+-- .. and no more than any n that holds them
 pub held-least : (b : List ℕ) (n : ℕ) → 1 ≤ n → length b ≤ n → held b ≤ n
 unfolding held
 held-least [] n h k = h
@@ -70,10 +65,11 @@ unfoldable mutual
 abbrev pub valueBytes : TokenValue → ℕ
 valueBytes v = brackets v + insideBytes v
 
--- a root may lack its brackets
+-- a tree without its outermost brackets, which a root may lack
 unfoldable pub rootBytes : TokenTree → ℕ
 rootBytes (tree s p v x) = commentsBytes p + insideBytes v + suffixBytes x
 
+-- comments in a row
 pub comments-append : (p q : List Slice) → commentsBytes (p ++ q) ≡ commentsBytes p + commentsBytes q
 unfolding commentsBytes
 comments-append [] q = omega arith
@@ -93,7 +89,7 @@ suffix-some (some c) = held-some (c .bytes)
 leaf-some : (b : List ℕ) → (1 ≤ 0 + held b) × (1 ≤ suc (held b))
 leaf-some b = let h = held-some b in (omega arith, omega arith)
 
--- each record takes a byte, but for a root that has no brackets
+-- each record takes a byte; a value without its brackets may have one record more
 mutual
   unfolding treeSize treeBytes
 
@@ -116,10 +112,12 @@ mutual
   pairs-some noPairs = omega arith
   pairs-some (pair k v kvs) = omega (arith, tree-some k, tree-some v, pairs-some kvs)
 
+-- .. and so a root
 pub root-some : (t : TokenTree) → treeSize t ≤ suc (rootBytes t)
 unfolding treeSize rootBytes
 root-some (tree s p v x) = let h = value-some v in omega (arith, comments-some p, h .1, suffix-some x)
 
+-- with its brackets a tree takes no less
 pub root-least : (t : TokenTree) → rootBytes t ≤ treeBytes t
 unfolding rootBytes treeBytes
 root-least (tree s p v x) = omega arith

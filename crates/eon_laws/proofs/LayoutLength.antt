@@ -1,22 +1,28 @@
--- The layout of a text of n bytes, with the default settings, has at most 68 bytes for each of n + 1: each token is charged its own bytes and
--- 67 more, which pay for its indentation (at most 65), the end of its line, and a blank line.
+-- The layout of a text of n bytes, with the default settings, has at most 68 * (n + 1) bytes: each token pays for its own bytes and 67
+-- more, which are its indentation (at most 65), the end of its line, and a blank line. It has a byte, so that 68 for each byte suffice.
 use mathlib.Core.Path.{_≡_, refl}
-use mathlib.Core.Bool.{Bool, true, false, _&&_, _||_, not, cond}
+use mathlib.Core.Bool.{Bool, true, false, _&&_}
 use mathlib.Core.List.{List, [], _∷_, _++_}
 use mathlib.Core.Option.{Option, none, some}
-use Prim.Native.Nat.{ℕ, zero, suc, max, _+_, _*_, _≤_}
+use Prim.Native.Nat.{ℕ, zero, suc, _+_, _*_, _≤_}
 use native.Mathlib.Omega.{arith}
 use lib.ListN.{length, length-append}
 use Rattle.eon_spec.specs.Base.{codes}
 use Rattle.eon_spec.specs.Utf8.{isUtf8}
 use Rattle.eon_spec.specs.Tree.{Slice, TokenTree, TokenValue, TokenTrees, KeyValues, tree, identifier, number, quotedString, listOf, mapOf, variantOf, noTrees, _∷ᵗ_, noPairs, pair}
 use Rattle.eon_spec.specs.Parse.{parsed, parse}
-use Rattle.eon_spec.specs.Layout.{Settings, defaults, isEmpty, noValues, noKeyValues, prefixOf, suffixOf, hasPrefix, onOneLine, isSoleContainer, addIndent, indentedComments, suffixComment, gap, closing, onLines, lineEnds, indentedValue, bareValue, value, oneLine, listContent, mapContent, sharedFirst, sharedTree, shared, withoutBraces, format}
+use Rattle.eon_spec.specs.Layout.{Settings, defaults, isEmpty, noValues, noKeyValues, prefixOf, suffixOf, onOneLine, isSoleContainer, addIndent, indentedComments, suffixComment, gap, closing, onLines, lineEnds, indentedValue, bareValue, value, oneLine, listContent, mapContent, sharedFirst, sharedTree, shared, withoutBraces, format}
 use Rattle.eon_spec.specs.Runs.{height, heightIn, heightOf, heightOfPairs}
-use Rattle.eon_laws.proofs.Bytes.{held, held-some, held-charge, commentsBytes, suffixBytes, treeBytes, insideBytes, valueBytes, treesBytes, pairsBytes, rootBytes}
+use Rattle.eon_laws.proofs.Bytes.{held, commentsBytes, suffixBytes, treeBytes, insideBytes, valueBytes, treesBytes, pairsBytes, rootBytes}
 use Rattle.eon_laws.proofs.Spans.{tree-bytes, tree-height}
 
--- the longer of two
+-- 67 bytes and its own are at most 68 for each byte that a token takes
+held-charge : (b : List ℕ) → length b + 67 ≤ 68 * held b
+unfolding held
+held-charge [] = omega arith
+held-charge (x ∷ b) = omega arith
+
+-- both branches are short enough
 choice-le : (b : Bool) (x y : List ℕ) (m : ℕ) → length x ≤ m → length y ≤ m → length {A = ℕ} (elim b [ true ↦ x | false ↦ y ]) ≤ m
 choice-le true x y m h k = h
 choice-le false x y m h k = k
@@ -30,33 +36,36 @@ module _ (o : Settings) (tab : length (o .indentation) ≡ 1) (line : length (o 
   indent-length zero = refl
   indent-length (suc n) = rw (length-append (o .indentation) (addIndent o n), tab, indent-length n) (omega arith)
 
-  -- comments on lines of their own, and a blank line
+  -- comments on lines of their own, with a byte to spare for each
   comments-le : (n : ℕ) (cs : List Slice) → n ≤ 65 → length (indentedComments o n cs) + length cs ≤ 68 * commentsBytes cs
   unfolding commentsBytes
   comments-le n [] h = omega arith
   comments-le n (c ∷ cs) h = simp (length-append, line, indent-length) (omega (arith, held-charge (c .bytes), comments-le n cs h))
 
+  -- a suffix comment
   suffix-le : (x : Option Slice) → length (suffixComment o x) ≤ 68 * suffixBytes x
   unfolding suffixBytes
   suffix-le none = omega arith
   suffix-le (some c) = omega (arith, held-charge (c .bytes))
 
+  -- a blank line, which a comment pays for
   gap-le : (first : Bool) (t : TokenTree) → length (gap o first t) ≤ length (prefixOf t)
   gap-le true t = omega arith
   gap-le false (tree s [] v x) = omega arith
   gap-le false (tree s (c ∷ p) v x) = omega arith
 
+  -- closing comments, and a blank line before them
   closing-le : (n : ℕ) (empty : Bool) (cl : List Slice) → n ≤ 65 → length (closing o n empty cl) ≤ 68 * commentsBytes cl
   closing-le n empty [] h = omega arith
   closing-le n true (c ∷ cl) h = omega (arith, comments-le n (c ∷ cl) h)
   closing-le n false (c ∷ cl) h = rw (length-append (o .newline) (indentedComments o n (c ∷ cl))) (omega (arith, comments-le n (c ∷ cl) h))
 
-  -- between brackets of one byte each
+  -- items that take at most m bytes, and closing comments, on lines of their own between brackets of one byte each
   lines-le : (n m : ℕ) (left items : List ℕ) (empty : Bool) (cl : List Slice) (right : List ℕ) → length left ≡ 1 → length right ≡ 1 → n ≤ 64 → length items ≤ m
       → length (onLines o n left items empty cl right) ≤ 3 + n + (m + 68 * commentsBytes cl)
   lines-le n m left items empty cl right l r h k = simp (length-append, l, r, line, indent-length) (omega (arith, closing-le (suc n) empty cl (omega arith)))
 
-  -- what a tree's line has, but for its indentation
+  -- a tree's lines and the blank line before them, but for the indentation of its value
   abbrev parts : ℕ → Bool → TokenTree → ℕ
   parts n first t = length (gap o first t) + length (indentedComments o n (prefixOf t)) + length (bareValue o n t) + length (suffixComment o (suffixOf t))
 
@@ -64,15 +73,16 @@ module _ (o : Settings) (tab : length (o .indentation) ≡ 1) (line : length (o 
   unfolding indentedValue
   indented-parts n first (tree s p v x) = simp (length-append, indent-length) (omega arith)
 
-
   -- a container whose items take at most m bytes
   module _ (n m : ℕ) (cl : List Slice) (inside : n ≤ 64) where
     abbrev most : ℕ
     most = 3 + n + (m + 68 * commentsBytes cl)
 
+    -- on one line
     one-line-le : (left items right : List ℕ) → length left ≡ 1 → length right ≡ 1 → length items ≤ m → length (left ++ items ++ right) ≤ most
     one-line-le left items right l r h = simp (length-append, l, r) (omega arith)
 
+    -- as a value of its own
     list-value-le : (vs : TokenTrees) → length (oneLine o n vs) ≤ m → length (listContent o (suc n) true vs) ≤ m → length (value o n (listOf vs cl)) ≤ most
     unfolding value
     list-value-le vs h k =
@@ -95,6 +105,7 @@ module _ (o : Settings) (tab : length (o .indentation) ≡ 1) (line : length (o 
         (choice-le (isEmpty cl && isSoleContainer vs) _ _ most (one-line-le (codes "(") (sharedFirst o n vs) (codes ")") refl refl j)
         (lines-le n m (codes "(") (lineEnds o true vs) (noValues vs) cl (codes ")") refl refl inside k))))
 
+    -- as the only value of a variant
     shared-list-le : (vs : TokenTrees) → length (listContent o (suc n) true vs) ≤ m → length (shared o n (listOf vs cl)) ≤ most
     unfolding shared
     shared-list-le vs k =
@@ -105,6 +116,7 @@ module _ (o : Settings) (tab : length (o .indentation) ≡ 1) (line : length (o 
     shared-map-le kvs k =
         choice-le (noKeyValues kvs && isEmpty cl) _ _ most (omega arith) (lines-le n m (codes "{") (mapContent o (suc n) true kvs) (noKeyValues kvs) cl (codes "}") refl refl inside k)
 
+  -- a pair and those behind it; a value and those behind it, on one line
   pair-length : (n : ℕ) (first : Bool) (k v : TokenTree) (kvs : KeyValues)
       → length (mapContent o n first (pair k v kvs)) ≤ n + 3 + parts n first k + parts n true v + length (mapContent o n false kvs)
   unfolding mapContent
@@ -114,7 +126,7 @@ module _ (o : Settings) (tab : length (o .indentation) ≡ 1) (line : length (o 
   unfolding oneLine
   next-le n t ts m h = behind-le (bareValue o n t) _ (2 + m) (choice-le (noValues ts) _ _ (2 + m) (omega arith) (omega arith))
 
-  -- a tree whose innermost containers stand at most 64 steps in
+  -- n steps in, with values at most 64 steps in: every value has 67 bytes to spare for what stands around it
   mutual
     unfolding value treeBytes height
 
@@ -163,7 +175,7 @@ module _ (o : Settings) (tab : length (o .indentation) ≡ 1) (line : length (o 
     shared-le (mapOf kvs cl) n h = omega (arith, shared-map-le n (68 * pairsBytes kvs) cl (omega arith) kvs (map-le kvs (suc n) true (omega arith)))
     shared-le (variantOf name vs cl) n h = omega arith
 
-  -- a root, which may lack its brackets
+  -- a root, without its brackets: they are 3 bytes with a line end
   root-value-le : (v : TokenValue) → heightIn v ≤ 64 → length (value o 0 v) ≤ 3 + 68 * insideBytes v
   unfolding value treeBytes height
   root-value-le (identifier b) h = omega (arith, held-charge b)
@@ -173,6 +185,7 @@ module _ (o : Settings) (tab : length (o .indentation) ≡ 1) (line : length (o 
   root-value-le (mapOf kvs cl) h = omega (arith, map-value-le 0 (68 * pairsBytes kvs) cl (omega arith) kvs (map-le kvs 1 true (omega arith)))
   root-value-le (variantOf name vs cl) h = omega (arith, value-le (variantOf name vs cl) 0 (omega arith))
 
+  -- with outer braces, and without
   root-le : (t : TokenTree) → height t ≤ 64 → length (indentedValue o 0 t) ≤ 3 + 68 * rootBytes t
   unfolding indentedValue rootBytes height
   root-le (tree s p v x) h = simp length-append (omega (arith, comments-le 0 p (omega arith), root-value-le v h, suffix-le x))
@@ -187,7 +200,6 @@ module _ (o : Settings) (tab : length (o .indentation) ≡ 1) (line : length (o 
       simp length-append (omega (arith, comments-le 0 p (omega arith), map-le kvs 0 true (omega arith), closing-le 0 (noKeyValues kvs) cl (omega arith), suffix-le x))
   without-braces-le (tree s p (variantOf n vs cl) x) h = root-le (tree s p (variantOf n vs cl) x) h
 
-  -- with and without outer braces
   format-le : (t : TokenTree) → height t ≤ 64 → length (format o t) ≤ 3 + 68 * rootBytes t
   unfolding format
   format-le t h = choice-le (o .alwaysIncludeOuterBraces) _ _ (3 + 68 * rootBytes t) (root-le t h) (without-braces-le t h)

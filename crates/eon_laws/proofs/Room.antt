@@ -25,15 +25,15 @@ use Rattle.eon_laws.proofs.LayoutLength.{layout-length}
 use Rattle.eon_laws.proofs.UnquoteLength.{Unquoted, unquote-length}
 
 -- a refusal for another reason than room
-abbrev pub Other : Refusal → Type 0
+abbrev Other : Refusal → Type 0
 Other r = r .number ≡ 14 → ⊥
 
 -- answered, or refused for another reason than room
-abbrev pub Enough : {A : Type 0} → Outcome A → Type 0
+abbrev Enough : {A : Type 0} → Outcome A → Type 0
 Enough (done a) = Unit {0}
 Enough (refusedWith r) = Other r
 
--- ---- what a text gives, by cases
+-- ---- what a text gives, by cases: a refusal, never by 14, or what is known of an accepted text
 
 checked-cases : {A : Type 0} (s : List ℕ) (f : List ℕ → Outcome A) (P : Outcome A → Type 0) → ((r : Refusal) → Other r → P (refusedWith r)) → (isUtf8 s ≡ true → P (f s)) → P (checked s f)
 unfolding checked
@@ -63,20 +63,20 @@ pub fits-memory : {A : Type 0} (a : A) (new old : List ℕ) → length new ≤ l
 unfolding fill
 fits-memory a new old h = rw (le-leb (length new) (length old) h, fill)
 
--- what w writes for b fits
+-- what w writes for b
 abbrev Fits : {A B : Type 0} → List ℕ → (B → A × List ℕ) → B → Type 0
 Fits old w b = length ((w b) .1) ≤ length old
 
--- .. so that the answer is kept
-abbrev Kept : {A B : Type 0} → List ℕ → (B → A × List ℕ) → Outcome B → Type 0
-Kept old w x = (fill old (then x λ b. done (w b))) .answer ≡ then x λ b. done ((w b) .0)
+-- what is answered if what w writes for x fits
+abbrev Answers : {A B : Type 0} → List ℕ → (B → A × List ℕ) → Outcome B → Type 0
+Answers old w x = (fill old (then x λ b. done (w b))) .answer ≡ then x λ b. done ((w b) .0)
 
-kept : {A B : Type 0} (old : List ℕ) (w : B → A × List ℕ) (b : B) → Fits old w b → Kept old w (done b)
-kept old w b h = ap (λ x. x .answer) (fits-memory ((w b) .0) ((w b) .1) old h)
+answers : {A B : Type 0} (old : List ℕ) (w : B → A × List ℕ) (b : B) → Fits old w b → Answers old w (done b)
+answers old w b h = ap (λ x. x .answer) (fits-memory ((w b) .0) ((w b) .1) old h)
 
-refused-kept : {A B : Type 0} (old : List ℕ) (w : B → A × List ℕ) (r : Refusal) → Other r → Kept old w (refusedWith r)
+answers-refused : {A B : Type 0} (old : List ℕ) (w : B → A × List ℕ) (r : Refusal) → Other r → Answers old w (refusedWith r)
 unfolding fill
-refused-kept old w r o = refl
+answers-refused old w r o = refl
 
 good-defaults : goodSettings defaultOptions ≡ true
 unfolding isUtf8 wellFormedLen wellFormedFrom charLen
@@ -87,11 +87,11 @@ pub default-settings : {A : Type 0} (x : Outcome A) → checkedSettings defaultO
 unfolding checkedSettings
 default-settings x = rw (good-defaults, checkedSettings)
 
--- ---- the laws: what is answered, and that 14 is not
+-- ---- the laws: the answer is what the text gives, and not 14
 
-answer-enough : {A B : Type 0} (a : Outcome A) (x : Outcome B) (f : B → A) → a ≡ (then x λ b. done (f b)) → Enough x → Enough a
-answer-enough a (done b) f e h = rw e tt
-answer-enough a (refusedWith r) f e h = rw e h
+answers-not-14 : {A B : Type 0} (a : Outcome A) (x : Outcome B) (f : B → A) → a ≡ (then x λ b. done (f b)) → Enough x → a ≡ refusedWith (nowhere 14) → ⊥
+answers-not-14 a (done b) f e h k = let z : _≡_ {A = ℕ} 0 1 = cc in omega arith
+answers-not-14 a (refusedWith r) f e h k = h (let z : r ≡ nowhere 14 = cc in ap (λ q. q .number) z)
 
 text-enough : (s : List ℕ) → Enough (readText s)
 text-enough s = read-cases s Enough (λ r o. o) λ formed t e. tt
@@ -100,35 +100,37 @@ finished-enough : (s table : List ℕ) → Enough (readFinished s table)
 finished-enough s table = finished-cases s Enough (λ r o. o) (λ formed t e. tt) table
 
 module _ (s table : List ℕ) where
+  -- the records of the text's tree
   words-fit : 5 * suc (length s) ≤ length table → isUtf8 s ≡ true → (t : TokenTree) → parse s ≡ parsed t → length (words (treeRecords t)) ≤ length table
   words-fit h formed t e = rw (words-length (treeRecords t)) (omega (arith, few-records s formed t e))
 
-  -- "a table of five words for each byte of the text, and five more, is never too short"
   module _ (h : 5 * suc (length s) ≤ length table) where
+    -- "a table of five words for each byte of the text, and five more, is never too short"
     pub read-room : (readCall s table) .answer ≡ then (readText s) λ t. done (length (treeRecords t))
     unfolding readCall
     read-room =
         let w : TokenTree → ℕ × List ℕ = λ t. (length (treeRecords t), words (treeRecords t)) in
-        read-cases s (Kept table w) (refused-kept table w) λ formed t e. kept table w t (words-fit h formed t e)
+        read-cases s (Answers table w) (answers-refused table w) λ formed t e. answers table w t (words-fit h formed t e)
 
-    pub read-enough : Enough ((readCall s table) .answer)
-    read-enough = answer-enough ((readCall s table) .answer) (readText s) (λ t. length (treeRecords t)) read-room (text-enough s)
+    pub read-not-14 : (readCall s table) .answer ≡ refusedWith (nowhere 14) → ⊥
+    read-not-14 = answers-not-14 ((readCall s table) .answer) (readText s) (λ t. length (treeRecords t)) read-room (text-enough s)
 
-  -- "an output of 68 bytes for each byte of the text, and 68 more, is never too short"
   module _ (out : List ℕ) (room : 68 * suc (length s) ≤ length out) where
+    -- its layout
     bytes-fit : isUtf8 s ≡ true → (t : TokenTree) → parse s ≡ parsed t → length (format defaults t) ≤ length out
     bytes-fit formed t e = omega (arith, layout-length s formed t e)
 
+    -- "an output of 68 bytes for each byte of the text, and 68 more, is never too short"
     pub format-room : (formatCall s table defaultOptions out) .answer ≡ then (readFinished s table) λ t. done (length (format defaults t))
     unfolding formatCall
     format-room =
         let w : TokenTree → ℕ × List ℕ = λ t. (length (format defaults t), format defaults t) in
-        rw default-settings (finished-cases s (Kept out w) (refused-kept out w) (λ formed t e. kept out w t (bytes-fit formed t e)) table)
+        rw default-settings (finished-cases s (Answers out w) (answers-refused out w) (λ formed t e. answers out w t (bytes-fit formed t e)) table)
 
-    pub format-enough : Enough ((formatCall s table defaultOptions out) .answer)
-    format-enough = answer-enough ((formatCall s table defaultOptions out) .answer) (readFinished s table) (λ t. length (format defaults t)) format-room (finished-enough s table)
+    pub format-not-14 : (formatCall s table defaultOptions out) .answer ≡ refusedWith (nowhere 14) → ⊥
+    format-not-14 = answers-not-14 ((formatCall s table defaultOptions out) .answer) (readFinished s table) (λ t. length (format defaults t)) format-room (finished-enough s table)
 
-    -- both, for reading and layout in one call
+    -- both together, for reading and layout in one call
     pub reformat-room : 5 * suc (length s) ≤ length table → (reformatCall s table defaultOptions out) .answer ≡ then (readText s) λ t. done (length (format defaults t))
     unfolding reformatCall fillBoth
     reformat-room h =
@@ -136,11 +138,11 @@ module _ (s table : List ℕ) where
         (read-cases s (λ x. (fillBoth table out (then x λ t. done (words (treeRecords t), format defaults t))) .answer ≡ then x λ t. done (length (format defaults t))) (λ r o. refl) λ formed t e.
         rw (le-leb (length (words (treeRecords t))) (length table) (words-fit h formed t e), le-leb (length (format defaults t)) (length out) (bytes-fit formed t e), fillBoth))
 
-    pub reformat-enough : 5 * suc (length s) ≤ length table → Enough ((reformatCall s table defaultOptions out) .answer)
-    reformat-enough h = answer-enough ((reformatCall s table defaultOptions out) .answer) (readText s) (λ t. length (format defaults t)) (reformat-room h) (text-enough s)
+    pub reformat-not-14 : 5 * suc (length s) ≤ length table → (reformatCall s table defaultOptions out) .answer ≡ refusedWith (nowhere 14) → ⊥
+    reformat-not-14 h = answers-not-14 ((reformatCall s table defaultOptions out) .answer) (readText s) (λ t. length (format defaults t)) (reformat-room h) (text-enough s)
 
--- "a scratch as long as the quoted string is never too short"
 module _ (s scratch : List ℕ) (h : length s ≤ length scratch) where
+  -- what is written for a value: nothing, or the value
   part-fits : (b : List ℕ) → length b ≤ length s → Fits scratch (handedBack s) b
   part-fits b k = go (isPart s) (partOf Quoted (opening s) (length b)) (partOf Scratch 0 (length b))
     where
@@ -156,9 +158,10 @@ module _ (s scratch : List ℕ) (h : length s ≤ length scratch) where
       go (value b) k = accepts b k
       go (fault n) k = refuses (nowhere n) λ e. omega (arith, k .0)
 
+  -- "a scratch as long as the quoted string is never too short"
   pub unquote-room : (unquoteCall s scratch) .answer ≡ then (checked s λ t. unescapedOutcome (unquote t)) λ b. done ((handedBack s b) .0)
   unfolding unquoteCall
-  unquote-room = unquote-cases (Kept scratch (handedBack s)) (refused-kept scratch (handedBack s)) λ b k. kept scratch (handedBack s) b (part-fits b k)
+  unquote-room = unquote-cases (Answers scratch (handedBack s)) (answers-refused scratch (handedBack s)) λ b k. answers scratch (handedBack s) b (part-fits b k)
 
-  pub unquote-enough : Enough ((unquoteCall s scratch) .answer)
-  unquote-enough = answer-enough ((unquoteCall s scratch) .answer) (checked s λ t. unescapedOutcome (unquote t)) (λ b. (handedBack s b) .0) unquote-room (unquote-cases Enough (λ r o. o) λ b k. tt)
+  pub unquote-not-14 : (unquoteCall s scratch) .answer ≡ refusedWith (nowhere 14) → ⊥
+  unquote-not-14 = answers-not-14 ((unquoteCall s scratch) .answer) (checked s λ t. unescapedOutcome (unquote t)) (λ b. (handedBack s b) .0) unquote-room (unquote-cases Enough (λ r o. o) λ b k. tt)

@@ -51,6 +51,16 @@ module _ (s : List ℕ) where
 
 -- ---- what the readers keep
 
+-- the containers that a depth allows, for a value and for an inside: each costs two steps
+unfoldable mutual
+  valueLevels : ℕ → ℕ
+  valueLevels zero = 0
+  valueLevels (suc d) = suc (insideLevels d)
+
+  insideLevels : ℕ → ℕ
+  insideLevels zero = 0
+  insideLevels (suc d) = valueLevels d
+
 module _ (s : List ℕ) where
   -- a cursor whose tokens stand in the text
   abbrev Good : Cursor → Type 0
@@ -300,16 +310,6 @@ module _ (s : List ℕ) where
           (((omega (arith, hv .1), w), h, hv .0, x .0), omega (arith, hv .2)),
           record { good = x .1 .good; took = omega (arith, m .took, mv .took, x .1 .took) },
         )
-
-  -- one container costs two steps of depth
-  unfoldable mutual
-    valueLevels : ℕ → ℕ
-    valueLevels zero = 0
-    valueLevels (suc d) = suc (insideLevels d)
-
-    insideLevels : ℕ → ℕ
-    insideLevels zero = 0
-    insideLevels (suc d) = valueLevels d
 
   module _ (len : ℕ) (whole : len ≡ length s) where
     tree-ok : (k : ℕ) (value : Reader) → OkReader k value → OkReader (suc k) (treeWith len value)

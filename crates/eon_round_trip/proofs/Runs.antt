@@ -1,35 +1,21 @@
 -- Demand 3 on the outcomes of the calls: the afternoon run, the evening run on what it wrote, and two such rows.
-use mathlib.Core.Path.{_≡_, refl, sym, _∙_, ap}
+use mathlib.Core.Path.{_≡_, sym, _∙_, ap}
 use mathlib.Core.Bool.{Bool, true, false}
 use mathlib.Core.List.{List}
 use Prim.Native.Nat.{ℕ, _*_, _≤_}
 use lib.ListN.{length, drop}
 use lib.Seq.{take-append-seam}
-use lib.Dec.{leb, le→leb}
 use Rattle.eon_spec.specs.declared.Run.{Run}
-use Rattle.eon_spec.specs.Utf8.{isUtf8, wellFormedLen, wellFormedFrom, charLen}
 use Rattle.eon_spec.specs.Tree.{TokenTree}
 use Rattle.eon_spec.specs.Records.{treeRecords, words}
 use Rattle.eon_spec.specs.Layout.{defaults, defaultOptions, format}
-use Rattle.eon_spec.specs.Calls.{Outcome, outcomeOf, done, refusedWith, nowhere, after, written, fill, readText, readCall, readFinished, isFinished, goodSettings, checkedSettings, formatCall, sameRecords, compareCall}
+use Rattle.eon_spec.specs.Calls.{Outcome, outcomeOf, done, refusedWith, nowhere, after, written, readText, readCall, readFinished, isFinished, formatCall, sameRecords, compareCall}
 use Rattle.eon_spec.specs.Runs.{Premises, Suffices, wrote, runWrites, eveningText, IsRun, Leaves, TwoRuns, ShareText}
-use Rattle.eon_laws.proofs.Facts.{true-of, list-same}
+use Rattle.eon_laws.proofs.Facts.{list-same}
 use Rattle.eon_laws.proofs.Records.{words-length}
 use Rattle.eon_laws.proofs.Compare.{same-count}
+use Rattle.eon_laws.proofs.Room.{fits-memory, default-settings}
 use Rattle.eon_round_trip.proofs.RoundTrip.{round-trip, written-compared, compared-written}
-
-fits-memory : {A : Type 0} (a : A) (new old : List ℕ) → length new ≤ length old → fill old (done (a, new)) ≡ after (done a) (written new old)
-unfolding fill
-fits-memory a new old h = rw (true-of (leb (length new) (length old)) (le→leb (length new) (length old) h), fill)
-
-good-defaults : goodSettings defaultOptions ≡ true
-unfolding isUtf8 wellFormedLen wellFormedFrom charLen
-good-defaults = refl
-
--- the default settings are not refused
-default-settings : {A : Type 0} (x : Outcome A) → checkedSettings defaultOptions x ≡ x
-unfolding checkedSettings
-default-settings x = rw (good-defaults, checkedSettings)
 
 abbrev stale : Bool → TokenTree → Outcome TokenTree
 stale b t = elim b [ true ↦ done t | false ↦ refusedWith (nowhere 15) ]
