@@ -89,6 +89,7 @@ default-settings x = rw (good-defaults, checkedSettings)
 
 -- ---- the laws: the answer is what the text gives, and not 14
 
+-- an answer that is what x gives
 answers-not-14 : {A B : Type 0} (a : Outcome A) (x : Outcome B) (f : B → A) → a ≡ (then x λ b. done (f b)) → Enough x → a ≡ refusedWith (nowhere 14) → ⊥
 answers-not-14 a (done b) f e h k = let z : _≡_ {A = ℕ} 0 1 = cc in omega arith
 answers-not-14 a (refusedWith r) f e h k = h (let z : r ≡ nowhere 14 = cc in ap (λ q. q .number) z)

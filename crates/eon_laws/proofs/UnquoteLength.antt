@@ -24,6 +24,7 @@ Within m (fault n) = (17 ≤ n) × (n ≤ 26)
 
 -- ---- sizes
 
+-- what holds of both values holds of the one that is chosen
 chosen : {A : Type 0} (b : Bool) (P : A → Type 0) (x y : A) → P x → P y → P (cond b x y)
 chosen true P x y f g = f
 chosen false P x y f g = g
@@ -36,6 +37,7 @@ char-size c = chosen (ltb c 0x80) P _ _ (omega arith, omega arith) (chosen (ltb 
     P : List ℕ → Type 0
     P b = (1 ≤ length b) × (length b ≤ 4)
 
+-- code points in a row
 size-cons : (c : ℕ) (s : List ℕ) → size (c ∷ s) ≡ length (encodeChar c) + size s
 unfolding encode
 size-cons c s = length-append (encodeChar c) (encode s)
@@ -48,6 +50,7 @@ size-parts n s = rw (take-append-drop n s) at (size-append (take n s) (drop n s)
 
 -- ---- escapes
 
+-- a larger bound; and a character before the others
 grow : (m k : ℕ) (u : Unescaped) → m ≤ k → Within m u → Within k u
 grow m k (value v) h w = omega arith
 grow m k (fault n) h w = w
@@ -66,6 +69,7 @@ abbrev OneByte : Option ℕ → Type 0
 OneByte none = Unit {0}
 OneByte (some d) = length (encodeChar d) ≡ 1
 
+-- .. as the table says
 abbrev allOneByte : List (ℕ × ℕ) → Bool
 allOneByte [] = true
 allOneByte (e ∷ es) = eqb (length (encodeChar (e .1))) 1 && allOneByte es
@@ -122,6 +126,7 @@ module _ (c : ℕ) (s : List ℕ) (rec : (m : Mode) → Within (passed m + size 
       (λ d q. either (ltb k 8) (Here 3) _ _ (λ e. go-on 3 (digits (suc k) (n * 16 + d)) (omega arith)) (λ e. (omega arith, omega arith)))
       (either (eqb c 95) (Here 3) _ _ (λ e. go-on 3 (digits k n) (omega arith)) (λ e. (omega arith, omega arith))))
 
+-- an escape is no shorter than what it stands for
 unescape-within : (s : List ℕ) (m : Mode) → Within (passed m + size s) (unescape m s)
 unfolding unescape encode
 unescape-within [] plain = omega arith
@@ -133,6 +138,7 @@ unescape-within (c ∷ s) m = step c s (unescape-within s) m
 
 -- ---- between the marks
 
+-- without its marks a string is shorter; f keeps within what it is handed
 in-marks : (m s : List ℕ) (f : List ℕ → Unescaped) → ((t : List ℕ) → Within (size t) (f t)) → Within (size s) (inMarks m s f)
 in-marks m s f h =
     let rest : List ℕ = drop (length m) s in
@@ -146,7 +152,7 @@ on-one-line f h t = either (elem 10 t) (Within (size t)) (fault 19) (f t) (λ e.
 unescaped-within : (t : List ℕ) → Within (size t) (unescape plain t)
 unescaped-within t = grow (0 + size t) (size t) (unescape plain t) (omega arith) (unescape-within t plain)
 
--- code points less
+-- fewer code points take no more bytes
 size-less : (c : ℕ) (s : List ℕ) → size s ≤ size (c ∷ s)
 size-less c s = omega (arith, size-cons c s)
 
@@ -160,6 +166,7 @@ without-within x (c ∷ s) =
     let h = without-within x s in
     either (eqb c x) (λ y. size y ≤ size (c ∷ s)) (without x s) (c ∷ without x s) (λ e. omega (arith, size-less c s)) (λ e. omega (arith, size-cons c s, size-cons c (without x s)))
 
+-- each way of quoting
 chars-within : (s : List ℕ) → Within (size s) (unquoteChars s)
 unfolding unquoteChars
 chars-within s =
