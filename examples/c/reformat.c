@@ -53,10 +53,7 @@ int main(int count, char **arguments) {
     FILE *file = fopen(arguments[1], "rb");
     if (file == NULL) return failed(arguments[1]);
     size_t len = fread(text, 1, sizeof text, file);
-    if (ferror(file)) {
-        fclose(file);
-        return failed(arguments[1]);
-    }
+    int status = ferror(file) ? failed(arguments[1]) : reformat(arguments[1], text, len);
     fclose(file);
-    return reformat(arguments[1], text, len);
+    return status;
 }

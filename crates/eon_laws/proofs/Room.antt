@@ -106,7 +106,7 @@ module _ (s table : List ℕ) where
   words-fit h formed t e = rw (words-length (treeRecords t)) (omega (arith, few-records s formed t e))
 
   module _ (h : 5 * suc (length s) ≤ length table) where
-    -- "a table of five words for each byte of the text, and five more, is never too short"
+    -- a table of five words for each byte of the text, and five more, is never too short
     pub read-room : (readCall s table) .answer ≡ then (readText s) λ t. done (length (treeRecords t))
     unfolding readCall
     read-room =
@@ -121,7 +121,7 @@ module _ (s table : List ℕ) where
     bytes-fit : isUtf8 s ≡ true → (t : TokenTree) → parse s ≡ parsed t → length (format defaults t) ≤ length out
     bytes-fit formed t e = omega (arith, layout-length s formed t e)
 
-    -- "an output of 68 bytes for each byte of the text, and 68 more, is never too short"
+    -- an output of 68 bytes for each byte of the text, and 68 more, is never too short
     pub format-room : (formatCall s table defaultOptions out) .answer ≡ then (readFinished s table) λ t. done (length (format defaults t))
     unfolding formatCall
     format-room =
@@ -159,7 +159,7 @@ module _ (s scratch : List ℕ) (h : length s ≤ length scratch) where
       go (value b) k = accepts b k
       go (fault n) k = refuses (nowhere n) λ e. omega (arith, k .0)
 
-  -- "a scratch as long as the quoted string is never too short"
+  -- a scratch as long as the quoted string is never too short
   pub unquote-room : (unquoteCall s scratch) .answer ≡ then (checked s λ t. unescapedOutcome (unquote t)) λ b. done ((handedBack s b) .0)
   unfolding unquoteCall
   unquote-room = unquote-cases (Answers scratch (handedBack s)) (answers-refused scratch (handedBack s)) λ b k. answers scratch (handedBack s) b (part-fits b k)
