@@ -1,4 +1,8 @@
-/* reformat FILE: prints the file laid out, or says why it is refused, where, and ends with 1. */
+/* reformat FILE: prints the file laid out, or says why it is refused, where, and ends with 1.
+ *
+ *   rt staticlib eon_c
+ *   cc -std=c11 -Iinclude -o reformat examples/c/reformat.c target/staticlib/libeon_c.a
+ */
 #include <stdio.h>
 #include <stdlib.h>
 

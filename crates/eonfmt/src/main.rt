@@ -3,6 +3,14 @@
 use eon_spec::Answer;
 use eon_spec::Refusal;
 
+// A byte more than a text has at most, so that a full buffer is refused by 1.
+const TEXT_BYTES: usize = 65536;
+
+// 3,276 records of five words.
+const TABLE_WORDS: usize = 16380;
+
+const OUT_BYTES: usize = 65536;
+
 // How often in all a read may be interrupted by a signal before it counts as failed.
 const INTERRUPTS: usize = 1000;
 
@@ -67,8 +75,8 @@ fn write_answer(answer: Answer, out: &[u8]) -> bool {
 
 // Reading's refusal, or what layout answered.
 fn lay_out(text: &[u8]) -> bool {
-    let mut table = [0u32; 16380];
-    let mut out = [0u8; 65536];
+    let mut table = [0u32; TABLE_WORDS];
+    let mut out = [0u8; OUT_BYTES];
     let run = eon_syntax::run(text, &mut table, &mut out);
     let read = run.read;
     if let Answer::Refused(r) = read {
@@ -78,9 +86,8 @@ fn lay_out(text: &[u8]) -> bool {
     write_answer(answer, &out)
 }
 
-// A text that fills its buffer is one byte too long, and reading refuses it by 1.
 fn main() {
-    let mut text = [0u8; 65536];
+    let mut text = [0u8; TEXT_BYTES];
     match read_input(&mut text) {
         Input::Failed => os::fail(b"eonfmt: standard input"),
         Input::Whole(n) => {
