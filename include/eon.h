@@ -6,7 +6,7 @@
  * - a pointer is good for its length; where that is 0 it is not looked at, and may be null;
  * - tables, outputs, scratches and answers are initialised, also where a call only writes them, and aligned as their types;
  * - what is lent to be written overlaps nothing else that is handed to the same call;
- * - the stack that the call states; a thread needs some 10 KB for itself besides.
+ * - the call's stack, EON_STACK_..; a thread needs some 10 KB for itself besides.
  *
  * A table has EON_RECORD_WORDS words a record, records in the order of the text: kind, start, text end (a variant name's
  * end, otherwise the end), end, and the number of records in it counting itself. A map's values alternate, key and value.
@@ -30,10 +30,21 @@ extern "C" {
 #define EON_RECORD_WORDS 5
 
 /* Lent so much, no call on a text of n bytes refuses by EON_NO_SPACE: the table's words, the layout's bytes under
- * EON_DEFAULT_SETTINGS, the scratch's bytes. */
+ * EON_DEFAULT_SETTINGS (an indentation of at most 65 tabs, a line end, a blank line and a byte), the scratch's bytes. */
 #define EON_TABLE_WORDS(n) (EON_RECORD_WORDS * ((n) + 1))
 #define EON_LAYOUT_BYTES(n) (68 * ((n) + 1))
 #define EON_SCRATCH_BYTES(n) (n)
+
+/* Bytes of stack that a call takes at most, with a margin; reformatting by the length of the text. */
+#define EON_STACK_READ (100 * 1024)
+#define EON_STACK_FORMAT (130 * 1024)
+#define EON_STACK_REFORMAT_SMALL (180 * 1024)  /* up to EON_SMALL_TEXT bytes */
+#define EON_STACK_REFORMAT_MEDIUM (550 * 1024) /* up to EON_MEDIUM_TEXT bytes */
+#define EON_STACK_REFORMAT (1700 * 1024)
+#define EON_STACK_COMPARE (100 * 1024)
+#define EON_STACK_OTHERS (8 * 1024)
+#define EON_SMALL_TEXT 2047
+#define EON_MEDIUM_TEXT 16383
 
 enum eon_record_kind {
     EON_RECORD_IDENTIFIER = 1,
@@ -112,11 +123,11 @@ typedef struct eon_answer {
     (const uint8_t *)"\t", 1, (const uint8_t *)"\n", 1, (const uint8_t *)" ", 1, (const uint8_t *)": ", 2, false
 
 /* Reads a text into the table. value: the number of records; they are the first EON_RECORD_WORDS * value words, and the
- * words behind them keep their content. Refuses by 1 to 13, then by 14. Stack: 100 KB. */
+ * words behind them keep their content. Refuses by 1 to 13, then by 14. */
 void eon_read(const uint8_t *text, size_t text_len, uint32_t *table, size_t table_words, eon_answer *answer);
 
 /* Lays a text out by its finished table. value: the number of bytes written to the beginning of `out`; the bytes behind
- * them keep their content. Refuses by 16, 1 to 13, 15, then by 14. Stack: 130 KB. */
+ * them keep their content. Refuses by 16, 1 to 13, 15, then by 14. */
 void eon_format(const uint8_t *text, size_t text_len, const uint32_t *table, size_t table_words,
                 const uint8_t *indentation, size_t indentation_len, const uint8_t *newline, size_t newline_len,
                 const uint8_t *space_before_suffix_comment, size_t space_before_suffix_comment_len,
@@ -125,8 +136,7 @@ void eon_format(const uint8_t *text, size_t text_len, const uint32_t *table, siz
 
 /* Reads a text into the table and lays it out, without a second check of the table. value: the number of bytes written to
  * the beginning of `out`; the table is then finished. Refuses by 16, 1 to 13, then by 14 if the table or `out` is too
- * short; both are unchanged then. Stack: 180 KB for a text of up to 2,047 bytes, 550 KB up to 16,383, and 1,700 KB for
- * any other. */
+ * short; both are unchanged then. */
 void eon_reformat(const uint8_t *text, size_t text_len, uint32_t *table, size_t table_words, const uint8_t *indentation,
                   size_t indentation_len, const uint8_t *newline, size_t newline_len,
                   const uint8_t *space_before_suffix_comment, size_t space_before_suffix_comment_len,
@@ -134,7 +144,7 @@ void eon_reformat(const uint8_t *text, size_t text_len, uint32_t *table, size_t 
                   bool always_include_outer_braces, uint8_t *out, size_t out_len, eon_answer *answer);
 
 /* Compares the trees of two texts with their finished tables, spans aside. value: 1 if they are equal, otherwise 0.
- * Refuses by 1 to 13 and 15 of the first text, then of the second. Stack: 100 KB. */
+ * Refuses by 1 to 13 and 15 of the first text, then of the second. */
 void eon_compare(const uint8_t *text1, size_t text1_len, const uint32_t *table1, size_t table1_words,
                  const uint8_t *text2, size_t text2_len, const uint32_t *table2, size_t table2_words,
                  eon_answer *answer);
@@ -142,17 +152,16 @@ void eon_compare(const uint8_t *text1, size_t text1_len, const uint32_t *table1,
 /* The value of a quoted string. value: its length; it stands at `from` in the quoted slice (slice 0) if that has no
  * carriage return and is literal or has no backslash; the scratch is then unchanged. Otherwise it is the beginning of the
  * scratch (slice 1), and the bytes behind it keep their content. Refuses by 1, 2, 17 to 26, then by 14 if the value is to be
- * written and longer than the scratch. Stack: 8 KB. */
+ * written and longer than the scratch. */
 void eon_unquote(const uint8_t *quoted, size_t quoted_len, uint8_t *scratch, size_t scratch_len, eon_answer *answer);
 
 /* Where the part stands that unquoting named by `slice`, `from` and `value`: slice 0 is the quoted one, any other the
  * scratch. The answer's slice, from and value lie within these two slices whatever was named: a part that reaches beyond
- * its slice, and an empty one, is the empty beginning of the quoted slice. Never refuses. Stack: 8 KB. */
+ * its slice, and an empty one, is the empty beginning of the quoted slice. Never refuses. */
 void eon_show(const uint8_t *quoted, size_t quoted_len, const uint8_t *scratch, size_t scratch_len, uint64_t slice,
               size_t from, size_t value, eon_answer *answer);
 
-/* Whether a string needs no quotes: [a-zA-Z_][a-zA-Z0-9_]* other than true, false and null. Takes any bytes.
- * Stack: 8 KB. */
+/* Whether a string needs no quotes: [a-zA-Z_][a-zA-Z0-9_]* other than true, false and null. Takes any bytes. */
 bool eon_is_valid_identifier(const uint8_t *text, size_t text_len);
 
 /* The word for a refusal's number. */

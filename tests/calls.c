@@ -71,7 +71,7 @@ static void shown(void) {
     EXPECT(stands(0, 0, 0));
 }
 
-/* Of values of one byte, with brackets between them, inside 63 lists, most bytes are written for each that is read. */
+/* Of values of one byte, with brackets between them, inside 63 lists, over 40 bytes are written for each that is read. */
 static void rooms(void) {
     static uint8_t text[EON_MAX_TEXT], out[EON_LAYOUT_BYTES(EON_MAX_TEXT)];
     static uint32_t table[EON_TABLE_WORDS(EON_MAX_TEXT)];

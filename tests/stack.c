@@ -13,8 +13,6 @@
 #include "eon.h"
 
 enum {
-    SMALL_TEXT = 2047,
-    MEDIUM_TEXT = 16383,
     DEEPEST = 64,
     STEP = 4,        /* KB: a stack is whole pages */
     LEAST = 16,      /* KB: no thread has less */
@@ -66,24 +64,25 @@ static void *identify_it(void *unused) {
     return unused;
 }
 
-/* The KB that the header states for a text of up to 2,047 bytes, of up to 16,383, and for any other. */
+/* What the header states for a small text, a middling one, and any other. */
 static const struct call {
     const char *name;
     void *(*make)(void *);
     size_t small, medium, large;
 } CALLS[] = {
-    {"read", read_it, 100, 100, 100},
-    {"format", format_it, 130, 130, 130},
-    {"reformat", reformat_it, 180, 550, 1700},
-    {"compare", compare_it, 100, 100, 100},
-    {"unquote", unquote_it, 8, 8, 8},
-    {"show", show_it, 8, 8, 8},
-    {"is_valid_identifier", identify_it, 8, 8, 8},
+    {"read", read_it, EON_STACK_READ, EON_STACK_READ, EON_STACK_READ},
+    {"format", format_it, EON_STACK_FORMAT, EON_STACK_FORMAT, EON_STACK_FORMAT},
+    {"reformat", reformat_it, EON_STACK_REFORMAT_SMALL, EON_STACK_REFORMAT_MEDIUM, EON_STACK_REFORMAT},
+    {"compare", compare_it, EON_STACK_COMPARE, EON_STACK_COMPARE, EON_STACK_COMPARE},
+    {"unquote", unquote_it, EON_STACK_OTHERS, EON_STACK_OTHERS, EON_STACK_OTHERS},
+    {"show", show_it, EON_STACK_OTHERS, EON_STACK_OTHERS, EON_STACK_OTHERS},
+    {"is_valid_identifier", identify_it, EON_STACK_OTHERS, EON_STACK_OTHERS, EON_STACK_OTHERS},
 };
 
+/* In KB. */
 static size_t stated(const struct call *call, size_t size) {
-    if (size <= SMALL_TEXT) return call->small;
-    return size <= MEDIUM_TEXT ? call->medium : call->large;
+    if (size <= EON_SMALL_TEXT) return call->small >> 10;
+    return (size <= EON_MEDIUM_TEXT ? call->medium : call->large) >> 10;
 }
 
 static void in_thread(const struct call *call, size_t kilobytes) {
@@ -179,7 +178,7 @@ static size_t least(const struct call *call, size_t size) {
 }
 
 int main(int count, char **arguments) {
-    static const size_t SIZES[] = {0, SMALL_TEXT, SMALL_TEXT + 1, MEDIUM_TEXT, MEDIUM_TEXT + 1, EON_MAX_TEXT};
+    static const size_t SIZES[] = {0, EON_SMALL_TEXT, EON_SMALL_TEXT + 1, EON_MEDIUM_TEXT, EON_MEDIUM_TEXT + 1, EON_MAX_TEXT};
     bool measure = count > 1 && strcmp(arguments[1], "measure") == 0;
     for (size_t size = 0; size < sizeof SIZES / sizeof *SIZES; size++) {
         for (size_t call = 0; call < sizeof CALLS / sizeof *CALLS; call++) {

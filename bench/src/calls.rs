@@ -21,7 +21,7 @@ pub fn call<'a>(side: &str, name: &str, text: &'a str) -> Option<Call<'a>> {
 fn ours<'a>(name: &str, text: &'a str) -> Option<Call<'a>> {
     let text = text.as_bytes();
     let mut table = vec![0; eon::table_words(text.len())];
-    let mut out = vec![0; 64 * text.len()];
+    let mut out = vec![0; eon::layout_bytes(text.len())];
     let settings = Settings::default();
     match name {
         "read" => Some(Box::new(move || {

@@ -1,9 +1,8 @@
 //! Eon texts by proved calls. Texts are any bytes; tables, outputs and scratches are lent by the
 //! caller; nothing is allocated and nothing panics.
 //!
-//! A call answers a value or a [`Refusal`], and a refusal leaves what was lent as it was. On the
-//! stack [`reformat`] takes what it says, [`format`] 130 KB, [`read`] and [`compare`] 100 KB, the
-//! others 8 KB.
+//! A call answers a value or a [`Refusal`], and a refusal leaves what was lent as it was. What each
+//! takes of the [`stack`] is known.
 //!
 //! ```
 //! let text = b"round:3 byes:[\"Half\"(7)]";
@@ -17,6 +16,7 @@
 #![no_std]
 
 mod refusal;
+pub mod stack;
 pub mod sys;
 
 pub use refusal::{LineColumn, Refusal, RefusalKind, TokenKind};
@@ -114,8 +114,8 @@ pub fn format(
 
 /// Reads a text and lays it out, and answers how many bytes it wrote.
 ///
-/// On success the table is finished too; a refusal leaves both as they were. It takes 180 KB of
-/// stack for a text of up to 2,047 bytes, 550 KB up to 16,383, and 1,700 KB for any other.
+/// On success the table is finished too; a refusal leaves both as they were. What it takes of the
+/// stack goes by the text's length ([`stack::reformat`]).
 pub fn reformat(
     text: &[u8],
     table: &mut [u32],

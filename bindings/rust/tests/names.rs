@@ -1,6 +1,7 @@
-//! The header, the crate and docs/REFUSALS.md name the same refusals and token kinds by the same numbers and words.
+//! The header, the crate and docs/REFUSALS.md say the same: names, numbers and words of refusals and
+//! token kinds, memory that suffices, stacks, the version.
 
-use eon::{RefusalKind, TokenKind};
+use eon::{RefusalKind, TokenKind, stack};
 
 const HEADER: &str = include_str!("../../../include/eon.h");
 const REFUSALS: &str = include_str!("../../../docs/REFUSALS.md");
@@ -62,4 +63,44 @@ fn token_kinds() {
     }
     let behind = cases.len() as u32 + 1;
     assert_eq!(TokenKind::of_number(behind), TokenKind::Other(behind));
+}
+
+/// The header defines the name so.
+fn defines(name: &str, meaning: &str) {
+    let line = format!("#define {name} {meaning}");
+    let is_it = |found: &str| found == line || found.starts_with(&format!("{line} "));
+    assert!(HEADER.lines().any(is_it), "{line}");
+}
+
+#[test]
+fn sizes() {
+    defines("EON_VERSION", &format!("{:?}", env!("CARGO_PKG_VERSION")));
+    defines("EON_RECORD_WORDS", &eon::RECORD_WORDS.to_string());
+    assert_eq!(eon::table_words(9), eon::RECORD_WORDS * (9 + 1));
+    let line = eon::layout_bytes(0);
+    defines("EON_LAYOUT_BYTES(n)", &format!("({line} * ((n) + 1))"));
+    assert_eq!(eon::layout_bytes(9), line * (9 + 1));
+}
+
+#[test]
+fn stacks() {
+    let (small, medium) = (2047, 16383);
+    defines("EON_SMALL_TEXT", &small.to_string());
+    defines("EON_MEDIUM_TEXT", &medium.to_string());
+    for (name, bytes) in [
+        ("READ", stack::READ),
+        ("FORMAT", stack::FORMAT),
+        ("COMPARE", stack::COMPARE),
+        ("OTHERS", stack::OTHERS),
+        ("REFORMAT_SMALL", stack::reformat(0)),
+        ("REFORMAT_SMALL", stack::reformat(small)),
+        ("REFORMAT_MEDIUM", stack::reformat(small + 1)),
+        ("REFORMAT_MEDIUM", stack::reformat(medium)),
+        ("REFORMAT", stack::reformat(medium + 1)),
+    ] {
+        defines(
+            &format!("EON_STACK_{name}"),
+            &format!("({} * 1024)", bytes / 1024),
+        );
+    }
 }

@@ -52,6 +52,7 @@ module _ (w : List ℕ) where
   pub shown-of : (b q c : List ℕ) (s t : Which) (start len : ℕ) → t ≡ s → b ≡ showCall (partOf t start len) q c → w ≡ shownWords (length b) s start → w ≡ shownWords (length (showCall (partOf s start len) q c)) s start
   shown-of b q c s t start len e g f = f ∙ ap (λ (x : List ℕ). shownWords (length x) s start) (g ∙ ap (λ (x : Which). showCall (partOf x start len) q c) e)
 
+-- a number other than 0 names the scratch
 pub not-quoted : (n : ℕ) → (n ≡ 0 → ⊥) → Scratch ≡ whichOf n
 not-quoted zero h = absurd (h refl)
 not-quoted (suc n) h = refl

@@ -34,6 +34,7 @@ abbrev pub sliceNumber : Which → ℕ
 sliceNumber Quoted = 0
 sliceNumber Scratch = 1
 
+-- .. and back: 0 names the quoted slice, any other number the scratch
 abbrev pub whichOf : ℕ → Which
 whichOf zero = Quoted
 whichOf (suc n) = Scratch

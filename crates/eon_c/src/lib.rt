@@ -60,6 +60,7 @@ fn slice_number(which: Which) -> u64
     }
 }
 
+// 0 names the quoted slice, any other number the scratch.
 fn which_of(slice: u64) -> Which
     ensures { λ w. ⌜ w ≡ whichOf slice ⌝ }
 {

@@ -204,6 +204,6 @@ module _ (o : Settings) (tab : length (o .indentation) ≡ 1) (line : length (o 
   unfolding format
   format-le t h = choice-le (o .alwaysIncludeOuterBraces) _ _ (3 + 68 * rootBytes t) (root-le t h) (without-braces-le t h)
 
--- "the layout of an accepted text of n bytes, with the default settings, has at most 68 * (n + 1) bytes"
+-- the layout of an accepted text of n bytes, with the default settings, has at most 68 * (n + 1) bytes
 pub layout-length : (s : List ℕ) → isUtf8 s ≡ true → (t : TokenTree) → parse s ≡ parsed t → length (format defaults t) ≤ 68 * suc (length s)
 layout-length s formed t e = omega (arith, format-le defaults refl refl refl t (tree-height s formed t e), tree-bytes s formed t e)

@@ -17,6 +17,7 @@ pub mod Spans
 pub mod LayoutLength
 pub mod LayoutExamples
 pub mod UnquoteLength
+pub mod Checked
 pub mod Room
 pub mod Encode
 pub mod Shown

@@ -49,11 +49,6 @@ module _ (s : List ℕ) where
   row-within at [] r = r
   row-within at (t ∷ ts) r = omega (arith, r .0 .behind, r .0 .holds .0 .0, r .0 .holds .0 .1)
 
-  -- as many bytes as tokens
-  pub row-count : (at : ℕ) (ts : List Token) → Row at ts → at + length ts ≤ length s
-  row-count at [] r = omega arith
-  row-count at (t ∷ ts) r = omega (arith, row-count (t .end) ts (r .1), r .0 .behind, r .0 .byte)
-
 joined-append : (a b : List Character) → joined (a ++ b) ≡ joined a ++ joined b
 joined-append [] b = refl
 joined-append (c ∷ a) b = ap (λ (x : List ℕ). c ++ x) (joined-append a b) ∙ sym (append-assoc c (joined a) (joined b))

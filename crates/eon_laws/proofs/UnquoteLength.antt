@@ -187,7 +187,7 @@ encoded-within : (m : ℕ) (u : Unescaped) → Within m u → Unquoted m (valueB
 encoded-within m (value v) h = h
 encoded-within m (fault n) h = h
 
--- "a value takes no more bytes than its quoted string; refusals are 17 to 26"
+-- a value takes no more bytes than its quoted string; refusals are 17 to 26
 pub unquote-length : (s : List ℕ) → isUtf8 s ≡ true → Unquoted (length s) (unquote s)
 unfolding unquote
 unquote-length s formed =

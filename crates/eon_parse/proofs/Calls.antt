@@ -7,7 +7,7 @@ use native.Mathlib.Omega.{arith}
 use lib.ListN.{length, getD, take, drop, drop-of-length-le}
 use lib.Seq.{sets, drop-cons}
 use lib.Dec.{eqb, ltb}
-use borrow.Author.Tests.{le-ltb, le-leb, lt-leb, ltb-true, ltb-false, lt-ltb, eq-eqb, ne-eqb}
+use borrow.Author.Tests.{le-leb, lt-leb, ltb-true, ltb-false}
 use Rattle.eon_spec.specs.Base.{eqList}
 use Rattle.eon_spec.specs.Utf8.{isUtf8, wellFormedLen}
 use Rattle.eon_spec.specs.Tree.{Span, TokenTree}
@@ -15,7 +15,8 @@ use Rattle.eon_spec.specs.declared.Refusal.{Refusal}
 use Rattle.eon_spec.specs.Parse.{refusal, Parsed, parsed, refusedBy, parse}
 use Rattle.eon_spec.specs.Records.{words, treeRecords}
 use Rattle.eon_laws.proofs.Records.{words-length}
-use Rattle.eon_spec.specs.Calls.{Outcome, done, refusedWith, nowhere, checked, parsedOutcome, readText, then, written, after, outcomeOf, fill, readCall, isFinished, readFinished}
+use Rattle.eon_laws.proofs.Checked.{checked-long, checked-bad, checked-good}
+use Rattle.eon_spec.specs.Calls.{Outcome, done, refusedWith, nowhere, parsedOutcome, readText, then, written, after, outcomeOf, fill, readCall, isFinished, readFinished}
 use Rattle.eon_token.specs.Place.{span, kindAt, nextSpan, Spot, placeOf, cursorAt}
 use Rattle.eon_parse.specs.Walk.{Out, refuse, got, Records, one, two, inside, header, below, stops, run, endOf}
 use Rattle.eon_parse.specs.Top.{Shape, denied, asMap, asSingle, asSeveral, Whole, denies, gives, wholeOf, shapeWhole, ended, severalBy, listBy, mapBy, topAt}
@@ -87,8 +88,8 @@ then-fin tb (parsed t) = go (isFinished tb t)
 
 module _ (s tb : List ℕ) (u8 : isUtf8 s ≡ true) (short : length s ≤ 65535) where
   pub text-is : readText s ≡ parsedOutcome (parse s)
-  unfolding readText checked
-  text-is = rw (le-ltb 65535 (length s) short, checked, u8)
+  unfolding readText
+  text-is = checked-good s (λ t. parsedOutcome (parse t)) short u8
 
   read-is : readCall s tb ≡ fill tb (wholeOut (shapeWhole (topAt s)))
   unfolding readCall
@@ -344,17 +345,12 @@ module _ (s tb : List ℕ) where
   refused-fin r e = sym (ap (λ (o : Outcome TokenTree). then (then o (finish tb)) countOf) e)
 
   pub long-text : 65535 < length s → readText s ≡ refusedWith (refusal 1 (span 65535 65535))
-  unfolding readText checked
-  long-text h = rw (lt-ltb 65535 (length s) h, checked)
+  unfolding readText
+  long-text h = checked-long s (λ t. parsedOutcome (parse t)) h
 
   pub bad-text : length s ≤ 65535 → (n : ℕ) → n ≡ wellFormedLen s → (n ≡ length s → ⊥) → readText s ≡ refusedWith (refusal 2 (span n n))
-  unfolding readText checked isUtf8
-  bad-text h n e f =
-      rw (le-ltb 65535 (length s) h, checked, ne-eqb (wellFormedLen s) (length s) (λ z. f (e ∙ z))) (ap (λ (m : ℕ). refusedWith (refusal 2 (span m m))) (sym e))
-
-  pub good-text : (n : ℕ) → n ≡ wellFormedLen s → n ≡ length s → isUtf8 s ≡ true
-  unfolding isUtf8
-  good-text n e f = eq-eqb (wellFormedLen s) (length s) (sym e ∙ f)
+  unfolding readText
+  bad-text h n e f = checked-bad s (λ t. parsedOutcome (parse t)) h n e f
 
   pub read-long : 65535 < length s → after (outcomeOf (placedAnswer 1 65535)) tb ≡ readCall s tb
   read-long h = refused-read (refusal 1 (span 65535 65535)) (long-text h)

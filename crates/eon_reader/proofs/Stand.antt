@@ -7,14 +7,15 @@ use Prim.Native.Nat.{ℕ, _+_, _≤_, _<_}
 use native.Mathlib.Nat.{zero-add}
 use native.Mathlib.Omega.{arith}
 use lib.ListN.{length, drop-of-length-le}
-use borrow.Author.Tests.{le-ltb, lt-ltb, eq-eqb, ne-eqb}
+use borrow.Author.Tests.{eq-eqb, ne-eqb}
 use Rattle.eon_spec.specs.Utf8.{isUtf8, wellFormedLen, Boundary, chars, charsFrom}
 use Rattle.eon_spec.specs.Token.{Token, kindNumber, tokens, tokensFrom, tokenFrom}
 use Rattle.eon_spec.specs.Parse.{refusal, spanOf}
-use Rattle.eon_spec.specs.Calls.{Outcome, done, refusedWith, place, checked}
+use Rattle.eon_spec.specs.Calls.{Outcome, done, refusedWith, place}
+use Rattle.eon_laws.proofs.Checked.{checked-long, checked-bad, checked-good}
 use Rattle.eon_token.specs.Placed.{placedAt, tokensAt, kindOf, tokenOf}
 use Rattle.eon_token.specs.declared.token_kind.PlacedToken.{PlacedToken}
-use Rattle.eon_token.proofs.Text.{boundary-start, boundary-le}
+use Rattle.eon_token.proofs.Text.{boundary-start}
 use Rattle.eon_token.proofs.Laws.{kind-le, number-of, end-boundary, tokens-start, tokens-none, tokens-some}
 use Rattle.eon_reader.specs.Read.{Stands, ended, begins, startOf, endToken, firstToken, firstInvalid, strayOr, counted, countCall}
 
@@ -49,10 +50,6 @@ module _ (s : List ℕ) where
       go false u = none-left (startOf s) (omega (arith, start-other u)) ∙ rw u
 
   module _ (at : ℕ) where
-    pub stands-le : Stands s at → at ≤ length s
-    stands-le (ended e) = omega (arith, e)
-    stands-le (begins u b) = boundary-le s u at b
-
     pub stands-within : Stands s at → at < length s → (isUtf8 s ≡ true) × Boundary s at
     stands-within (ended e) h = absurd (omega (arith, e))
     stands-within (begins u b) h = (u, b)
@@ -92,20 +89,16 @@ module _ (n : ℕ) (t : Token) (ts : List Token) where
 module _ (s : List ℕ) where
   -- 1, then 2, then what a checked text gives
   pub count-long : 65535 < length s → refusedWith (refusal 1 (place 65535)) ≡ countCall s
-  unfolding countCall checked
-  count-long h = rw (lt-ltb 65535 (length s) h, checked)
+  unfolding countCall
+  count-long h = sym (checked-long s (λ t. counted (tokens t)) h)
 
   pub count-bad : length s ≤ 65535 → (n : ℕ) → n ≡ wellFormedLen s → (n ≡ length s → ⊥) → refusedWith (refusal 2 (place n)) ≡ countCall s
-  unfolding countCall checked isUtf8
-  count-bad h n e f = rw (le-ltb 65535 (length s) h, checked, ne-eqb (wellFormedLen s) (length s) (λ z. f (e ∙ z))) (ap (λ (m : ℕ). refusedWith (refusal 2 (place m))) e)
-
-  pub good-text : (n : ℕ) → n ≡ wellFormedLen s → n ≡ length s → isUtf8 s ≡ true
-  unfolding isUtf8
-  good-text n e f = eq-eqb (wellFormedLen s) (length s) (sym e ∙ f)
+  unfolding countCall
+  count-bad h n e f = sym (checked-bad s (λ t. counted (tokens t)) h n e f)
 
   pub count-good : length s ≤ 65535 → isUtf8 s ≡ true → counted (tokens s) ≡ countCall s
-  unfolding countCall checked
-  count-good h u = rw (le-ltb 65535 (length s) h, checked, u)
+  unfolding countCall
+  count-good h u = sym (checked-good s (λ t. counted (tokens t)) h u)
 
   -- n tokens are counted, and those from a byte on make the whole
   abbrev pub Makes : ℕ → ℕ → Type 0

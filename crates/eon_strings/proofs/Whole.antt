@@ -5,35 +5,19 @@ use mathlib.Core.List.{List, []}
 use Prim.Native.Nat.{ℕ, _-_, _≤_, _<_}
 use native.Mathlib.Omega.{arith}
 use native.Mathlib.Nat.{zero-add}
-use borrow.Author.Tests.{eq-eqb, ne-eqb, le-leb, lt-leb, lt-ltb, le-ltb}
+use borrow.Author.Tests.{le-leb, lt-leb}
 use lib.ListN.{length}
 use lib.Seq.{sets-eq}
-use Rattle.eon_spec.specs.Utf8.{encode, isUtf8, wellFormedLen}
+use Rattle.eon_spec.specs.Utf8.{encode, wellFormedLen}
 use Rattle.eon_spec.specs.Unquote.{value, fault, unquote, unquoteChars}
 use Rattle.eon_spec.specs.Unquote as unquoting
 use Rattle.eon_spec.specs.declared.Refusal.{Refusal}
 use Rattle.eon_spec.specs.Parse.{refusal}
 use Rattle.eon_spec.specs.Calls.{Outcome, done, refusedWith, After, after, Part, partOf, place, nowhere, checked, fill, written, isPart, opening, handedBack, unescapedOutcome, unquoteCall}
 use Rattle.eon_spec.specs.declared.Which.the-variants.{Quoted, Scratch}
+use Rattle.eon_laws.proofs.Checked.{checked-long, checked-bad, checked-good, good-text}
 use Rattle.eon_strings.specs.Views.{kept, Reads, ContentsIs, handed, placedCall, scratchCall}
 use Rattle.eon_strings.specs.declared.Contents.{Contents}
-
-module _ {A : Type 0} (q : List ℕ) (f : List ℕ → Outcome A) where
-  checked-long : 65535 < length q → checked q f ≡ refusedWith (refusal 1 (place 65535))
-  unfolding checked
-  checked-long h = rw (lt-ltb 65535 (length q) h, checked)
-
-  utf8-is : (b : Bool) → isUtf8 q ≡ b → length q ≤ 65535 → checked q f ≡ elim b [ true ↦ f q | false ↦ refusedWith (refusal 2 (place (wellFormedLen q))) ]
-  unfolding checked
-  utf8-is b e h = rw (le-ltb 65535 (length q) h, checked) (rw e)
-
-  checked-bad : length q ≤ 65535 → (wellFormedLen q ≡ length q → ⊥) → checked q f ≡ refusedWith (refusal 2 (place (wellFormedLen q)))
-  unfolding isUtf8
-  checked-bad h n = utf8-is false (ne-eqb (wellFormedLen q) (length q) n) h
-
-  checked-good : length q ≤ 65535 → wellFormedLen q ≡ length q → checked q f ≡ f q
-  unfolding isUtf8
-  checked-good h e = utf8-is true (eq-eqb (wellFormedLen q) (length q) e) h
 
 module _ (old : List ℕ) where
   fits : (p : Part) (new : List ℕ) → length new ≤ length old → fill old (done (p, new)) ≡ after (done p) (written new old)
@@ -78,11 +62,11 @@ module _ (q old : List ℕ) where
   call-long h = by-check _ (checked-long q (λ t. unescapedOutcome (unquote t)) h) ∙ refused (refusal 1 (place 65535))
 
   pub call-bad : length q ≤ 65535 → (wellFormedLen q ≡ length q → ⊥) → unquoteCall q old ≡ after (refusedWith (refusal 2 (place (wellFormedLen q)))) old
-  call-bad h n = by-check _ (checked-bad q (λ t. unescapedOutcome (unquote t)) h n) ∙ refused (refusal 2 (place (wellFormedLen q)))
+  call-bad h n = by-check _ (checked-bad q (λ t. unescapedOutcome (unquote t)) h (wellFormedLen q) refl n) ∙ refused (refusal 2 (place (wellFormedLen q)))
 
   pub call-good : length q ≤ 65535 → wellFormedLen q ≡ length q → unquoteCall q old ≡ placedCall q old (unquoteChars (kept q 0))
   unfolding unquote kept
-  call-good h e = by-check _ (checked-good q (λ t. unescapedOutcome (unquote t)) h e)
+  call-good h e = by-check _ (checked-good q (λ t. unescapedOutcome (unquote t)) h (good-text q (wellFormedLen q) refl e))
 
   -- a part of the quoted text, or the scratch
   pub part-is : (v : List ℕ) (start len : ℕ) → isPart q ≡ true → start ≡ opening q → length (encode v) ≡ len → after (done (partOf Quoted start len)) old ≡ placedCall q old (value v)

@@ -77,6 +77,7 @@ fn in_small(text: &[u8], table: &mut [u32], options: FormatOptions, out: &mut [u
     reformat_in(text, &mut work, table, options, out)
 }
 
+// The text is never longer: the branch stands there for its call alone, which keeps this frame out of the caller's.
 fn in_medium(text: &[u8], table: &mut [u32], options: FormatOptions, out: &mut [u8]) -> Answer
     requires { ⌜ length (now text) ≤ 16383 ⌝ }
     ensures { λ r. ⌜ afterBoth (outcomeOf r) (now (table .exit)) (now (out .exit)) ≡ reformatCall (now (text .entry)) (now (table .entry)) options (now (out .entry)) ⌝ }

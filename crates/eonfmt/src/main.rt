@@ -14,6 +14,7 @@ const OUT_BYTES: usize = 65536;
 // How often in all a read may be interrupted by a signal before it counts as failed.
 const INTERRUPTS: usize = 1000;
 
+// The length of what was read to the end, or a read that failed.
 enum Input {
     Whole(usize),
     Failed,

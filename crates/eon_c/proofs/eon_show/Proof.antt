@@ -5,19 +5,15 @@ use Rattle.eon_c.proofs.eon_show.Statement.{statement}
 use Rattle.eon_c.proofs.eon_show.Tie as tie
 use Rattle.eon_c.specs.Words.{whichOf}
 
--- src/lib.rt:194:51
 which-of-requires : tie.Need-which-of-requires
 which-of-requires c κs = search needs
 
--- src/lib.rt:194:9
 show-requires : tie.Need-show-requires
 show-requires c κs = search needs
 
--- src/lib.rt:195:15
 shown-words-requires : tie.Need-shown-words-requires
 shown-words-requires c κs = search needs
 
--- src/lib.rt:183:1
 returns : tie.Need-returns
 returns c =
     let args = c .before .before .before .before .before .args in

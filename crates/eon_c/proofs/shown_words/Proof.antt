@@ -4,27 +4,21 @@ use Rattle.eon_c.proofs.shown_words.Statement.{statement}
 use Rattle.eon_c.proofs.shown_words.Tie as tie
 use Rattle.eon_c.specs.Words.{whichOf}
 
--- src/lib.rt:178:9
 done-words-requires : tie.Need-done-words-requires
 done-words-requires c κs = search needs
 
--- src/lib.rt:178:9
 returns : tie.Need-returns
 returns c = shown-none _ (c .before .before .args .shown) (whichOf (c .before .before .args .slice)) (c .before .before .args .start) (c .before .if1 .taken) (c .done-words .ensures)
 
--- src/lib.rt:180:43
 which-of-requires : tie.Need-which-of-requires
 which-of-requires c κs = search needs
 
--- src/lib.rt:180:30
 slice-number-requires : tie.Need-slice-number-requires
 slice-number-requires c κs = search needs
 
--- src/lib.rt:180:5
 done-words-requires-2 : tie.Need-done-words-requires-2
 done-words-requires-2 c κs = search needs
 
--- src/lib.rt:174:1
 returns-2 : tie.Need-returns-2
 returns-2 c = shown-some _ (c .before .before .before .before .args .shown) (whichOf (c .before .before .before .before .args .slice)) (c .before .before .which-of .result) (c .before .before .before .before .args .start) (c .before .slice-number .result) (c .before .before .before .if1 .left) (c .before .before .which-of .ensures) (c .before .slice-number .ensures) (c .done-words2 .ensures)
 

@@ -3,11 +3,9 @@ use Rattle.eon_c.proofs.Words.{not-quoted}
 use Rattle.eon_c.proofs.which_of.Statement.{statement}
 use Rattle.eon_c.proofs.which_of.Tie as tie
 
--- src/lib.rt:67:9
 returns : tie.Need-returns
 returns c = search needs
 
--- src/lib.rt:63:1
 returns-2 : tie.Need-returns-2
 returns-2 c = not-quoted (c .before .args .slice) (c .if1 .left)
 

@@ -2,7 +2,8 @@ use mathlib.Core.Path.{ap, _∙_}
 use borrow.Author.Needs.{needs}
 use denote.Ref.{now}
 use Rattle.eon_spec.specs.Calls.{outcomeOf}
-use Rattle.eon_parse.proofs.Calls.{good-text, fin-long, fin-bad}
+use Rattle.eon_laws.proofs.Checked.{good-text}
+use Rattle.eon_parse.proofs.Calls.{fin-long, fin-bad}
 use Rattle.eon_parse.proofs.finished.Statement.{statement}
 use Rattle.eon_parse.proofs.finished.Tie as tie
 
@@ -24,7 +25,7 @@ finished-checked-requires c κs =
     let args = c .before .before .before .before .before .args in
     let s = now (args .text) in
     let tb = now (args .table) in
-    (good-text s tb (c .before .well-formed-len .result) (c .before .well-formed-len .ensures) (c .if2 .taken), c .before .before .if1 .left)
+    (good-text s (c .before .well-formed-len .result) (c .before .well-formed-len .ensures) (c .if2 .taken), c .before .before .if1 .left)
 
 returns-2 : tie.Need-returns-2
 returns-2 c = c .finished-checked .ensures

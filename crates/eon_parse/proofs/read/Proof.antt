@@ -3,7 +3,8 @@ use borrow.Author.Needs.{needs}
 use denote.Ref.{now}
 use Rattle.eon_spec.specs.Calls.{after, outcomeOf}
 use Rattle.eon_spec.specs.declared.Answer.{Answer}
-use Rattle.eon_parse.proofs.Calls.{good-text, read-long, read-bad}
+use Rattle.eon_laws.proofs.Checked.{good-text}
+use Rattle.eon_parse.proofs.Calls.{read-long, read-bad}
 use Rattle.eon_parse.proofs.read.Statement.{statement}
 use Rattle.eon_parse.proofs.read.Tie as tie
 
@@ -26,7 +27,7 @@ read-checked-requires c κs =
     let well-formed-len = c .before .before .well-formed-len in
     let s = now (args .text) in
     let tb = now (args .table) in
-    (good-text s tb (well-formed-len .result) (well-formed-len .ensures) (c .before .if2 .taken), c .before .before .before .if1 .left)
+    (good-text s (well-formed-len .result) (well-formed-len .ensures) (c .before .if2 .taken), c .before .before .before .if1 .left)
 
 same-length : tie.Need-same-length
 same-length c = search needs

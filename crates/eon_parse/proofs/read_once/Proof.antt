@@ -2,7 +2,8 @@ use borrow.Author.Needs.{needs}
 use denote.Ref.{now}
 use Rattle.eon_spec.specs.Parse.{refusal}
 use Rattle.eon_token.specs.Place.{span}
-use Rattle.eon_parse.proofs.Calls.{good-text, long-text, bad-text}
+use Rattle.eon_laws.proofs.Checked.{good-text}
+use Rattle.eon_parse.proofs.Calls.{long-text, bad-text}
 use Rattle.eon_parse.proofs.OneWalk.{once-is, once-refused}
 use Rattle.eon_parse.proofs.read_once.Statement.{statement}
 use Rattle.eon_parse.proofs.read_once.Tie as tie
@@ -28,7 +29,7 @@ once-requires c κs =
     let well-formed-len = c .before .before .well-formed-len in
     let s = now (args .text) in
     let n = well-formed-len .result in
-    (good-text s (now (args .table)) n (well-formed-len .ensures) (c .before .if2 .taken), if1 .left, pre (if1 .left))
+    (good-text s n (well-formed-len .ensures) (c .before .if2 .taken), if1 .left, pre (if1 .left))
 
 same-length : tie.Need-same-length
 same-length c = search needs
@@ -42,7 +43,7 @@ returns-2 c =
     let once = c .before .before .once in
     let s = now (args .text) in
     let n = well-formed-len .result in
-    once-is s (once .last .1 .0) (once .result) (good-text s (now (args .table)) n (well-formed-len .ensures) (if2 .taken)) (if1 .left) (once .ensures)
+    once-is s (once .last .1 .0) (once .result) (good-text s n (well-formed-len .ensures) (if2 .taken)) (if1 .left) (once .ensures)
 
 at-place-requires-2 : tie.Need-at-place-requires-2
 at-place-requires-2 c κs = search needs

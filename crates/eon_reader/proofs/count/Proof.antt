@@ -4,7 +4,8 @@ use native.Mathlib.Omega.{arith}
 use borrow.Author.Needs.{needs}
 use denote.Ref.{now}
 use Rattle.eon_spec.specs.Calls.{refusedWith}
-use Rattle.eon_reader.proofs.Stand.{count-long, count-bad, good-text, count-good}
+use Rattle.eon_laws.proofs.Checked.{good-text}
+use Rattle.eon_reader.proofs.Stand.{count-long, count-bad, count-good}
 use Rattle.eon_reader.proofs.count.Statement.{statement}
 use Rattle.eon_reader.proofs.count.Tie as tie
 
