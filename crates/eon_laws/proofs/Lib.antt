@@ -15,7 +15,6 @@ pub mod Words
 pub mod Places
 pub mod Spans
 pub mod LayoutLength
-pub mod LayoutExamples
 pub mod UnquoteLength
 pub mod Checked
 pub mod Room

@@ -14,4 +14,3 @@ pub mod NoComments
 pub mod Premises
 pub mod RoundTrip
 pub mod Runs
-pub mod Examples

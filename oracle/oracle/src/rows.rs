@@ -26,7 +26,7 @@ pub fn rows(count: usize, seed: u64) -> String {
 const HEAD: &str = "use mathlib.Core.Path.{_≡_, refl}
 use mathlib.Core.Bool.{true, false}
 use mathlib.Core.List.{[], _∷_}
-use Rattle.eon_spec.proofs.Computing.{reads, writesBy, settings, shows, tokensOf, ident, compares, bytes}
+use Rattle.eon_rows.proofs.Computing.{reads, writesBy, settings, shows, tokensOf, ident, compares, bytes}
 ";
 
 fn is_row(case: &Case) -> bool {

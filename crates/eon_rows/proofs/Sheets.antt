@@ -4,7 +4,7 @@ use mathlib.Core.List.{List, [], _∷_, _++_}
 use Prim.Native.Nat.{ℕ}
 use Prim.Native.String.{String}
 use lib.ListN.{replicate, take}
-use Rattle.eon_spec.proofs.Computing.{reads, writes, unquotes, bytes}
+use Rattle.eon_rows.proofs.Computing.{reads, writes, unquotes, bytes}
 
 data Row : Type 0 where
   -- the text has these records, by their words

@@ -3,7 +3,7 @@ use mathlib.Core.Path.{_≡_, refl}
 use mathlib.Core.List.{List, [], _++_}
 use Prim.Native.Nat.{ℕ, zero, suc}
 use lib.ListN.{length, replicate}
-use Rattle.eon_spec.proofs.Computing.{writes, bytes}
+use Rattle.eon_rows.proofs.Computing.{writes, bytes}
 
 -- the length of a text and of its layout, with a 0 for an accepted text before it
 abbrev lengths : List ℕ → ℕ × ℕ

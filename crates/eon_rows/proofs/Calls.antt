@@ -4,12 +4,12 @@ use mathlib.Core.Bool.{false}
 use mathlib.Core.List.{List, [], _∷_, _++_}
 use Prim.Native.Nat.{ℕ}
 use lib.ListN.{replicate}
 use Rattle.eon_spec.specs.declared.FormatOptions.{FormatOptions}
 use Rattle.eon_spec.specs.declared.Which.the-variants.{Quoted, Scratch}
 use Rattle.eon_spec.specs.Parse.{refusal}
 use Rattle.eon_spec.specs.Layout.{setting, settingsOf, defaults, defaultOptions}
 use Rattle.eon_spec.specs.Calls.{done, refusedWith, nowhere, place, after, partOf, readCall, readText, formatCall, checkedSettings, unquoteCall, showCall}
-use Rattle.eon_spec.proofs.Computing.{reads, writes, bytes, compares, shows}
+use Rattle.eon_rows.proofs.Computing.{reads, writes, bytes, compares, shows}
 
 words12 : List ℕ
 words12 = 4 ∷ 0 ∷ 3 ∷ 3 ∷ 3 ∷ 2 ∷ 0 ∷ 1 ∷ 1 ∷ 1 ∷ 2 ∷ 2 ∷ 3 ∷ 3 ∷ 1 ∷ []

@@ -10,7 +10,7 @@ use Rattle.eon_spec.specs.Tree.{TokenTree}
 use Rattle.eon_spec.specs.Layout.{defaults, format}
 use Rattle.eon_spec.specs.Calls.{done, then, readText}
 use Rattle.eon_spec.specs.Runs.{Premises, noComments, everyVariant, holdsValue, fitsOrHoldsOne, depth, height}
-use Rattle.eon_spec.proofs.Computing.{reads, writes, compares, bytes, plain, number}
+use Rattle.eon_rows.proofs.Computing.{reads, writes, compares, bytes, plain, number}
 
 -- an event file meets them
 event : (t : TokenTree) × Premises (bytes "round:3\nbyes:[\"Half\"(7),\"Half\"(9), \"Other\"({a: [1 2 3 4 5]})]") t

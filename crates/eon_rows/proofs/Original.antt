@@ -2,7 +2,7 @@
 use mathlib.Core.Path.{_≡_, refl}
 use mathlib.Core.Bool.{true, false}
 use mathlib.Core.List.{[], _∷_}
-use Rattle.eon_spec.proofs.Computing.{reads, writesBy, settings, shows, tokensOf, ident, compares, bytes}
+use Rattle.eon_rows.proofs.Computing.{reads, writesBy, settings, shows, tokensOf, ident, compares, bytes}
 
 row0 : tokensOf (9 ∷ 12 ∷ []) ≡ 0 ∷ []
 unfolding tokensOf bytes

@@ -1,0 +1,6 @@
+pub mod Computing
+pub mod Sheets
+pub mod Original
+pub mod Calls
+pub mod LayoutLengths
+pub mod Premises

@@ -1,4 +1,0 @@
-pub mod Computing
-pub mod Sheets
-pub mod Calls
-pub mod Original
