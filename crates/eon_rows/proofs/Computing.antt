@@ -1,8 +1,9 @@
--- The calls under names that unfold all the way, so that a worked example is a row `by computing`.
-use Prim.Native.Nat.{ℕ}
+-- The calls under names that unfold all the way, so that a worked example is a row `by computing`, and the words of such rows.
+use mathlib.Core.Path.{_≡_}
+use Prim.Native.Nat.{ℕ, zero, suc}
 use Prim.Native.String.{String}
 use mathlib.Core.Bool.{Bool, true, false}
-use mathlib.Core.List.{List, [], _∷_}
+use mathlib.Core.List.{List, [], _∷_, _++_}
 use lib.ListN.{replicate}
 use Rattle.eon_spec.specs.Utf8.{utf8, encode, encodeChar, decode, charsFrom, chars, charLen, isUtf8, wellFormedLen, wellFormedFrom}
 use Rattle.eon_spec.specs.Regex.{deriv, longest}
@@ -32,13 +33,9 @@ unfoldable pub writes : List ℕ → List ℕ
 unfolding writesBy
 writes s = writesBy defaults s
 
-unfoldable pub unquotes : List ℕ → List ℕ
-unfolding reads unquote unquoteChars unescape
-unquotes s = plain (checked s λ t. unescapedOutcome (unquote t))
-
 -- the value, as it is shown behind unquoting with a scratch of 100 bytes
 unfoldable pub shows : List ℕ → List ℕ
-unfolding unquotes unquoteCall fill showCall
+unfolding reads unquote unquoteChars unescape unquoteCall fill showCall
 shows s =
     let a = unquoteCall s (replicate 100 0) in
     plain (then (a .answer) λ p. done (showCall p s (a .memory)))
@@ -51,20 +48,20 @@ unfoldable pub tokensOf : List ℕ → List ℕ
 unfolding reads
 tokensOf s = plain (checked s λ t. done (flat (tokens t)))
 
-abbrev pub number : Bool → List ℕ
-number true = 1 ∷ []
-number false = 0 ∷ []
+abbrev pub truth : Bool → List ℕ
+truth true = 1 ∷ []
+truth false = 0 ∷ []
 
 unfoldable pub ident : List ℕ → List ℕ
 unfolding isValidIdentifier
-ident s = 0 ∷ number (isValidIdentifier s)
+ident s = 0 ∷ truth (isValidIdentifier s)
 
 unfoldable pub compares : List ℕ → List ℕ → List ℕ
 unfolding reads readCall fill readFinished isFinished compareCall
 compares s t =
     let a = readCall s (replicate 200 0) in
     let b = readCall t (replicate 200 0) in
-    plain (then (compareCall s (a .memory) t (b .memory)) λ x. done (number x))
+    plain (then (compareCall s (a .memory) t (b .memory)) λ x. done (truth x))
 
 abbrev pub settings : List ℕ → List ℕ → List ℕ → List ℕ → Bool → Settings
 settings ind nl blank sep braces =
@@ -74,3 +71,41 @@ settings ind nl blank sep braces =
 unfoldable pub bytes : String → List ℕ
 unfolding utf8 encode encodeChar
 bytes s = utf8 s
+
+-- a text so many times
+abbrev pub repeated : ℕ → List ℕ → List ℕ
+repeated zero s = []
+repeated (suc n) s = s ++ repeated n s
+
+-- ---- rows
+
+infix 50 _hasTokens_ _hasRecords_ _isRefused_ _isWritten_ _unquotesTo_ _isNoString_ _equals_ _differsFrom_
+-- the text has these tokens: kind, start and end of each
+abbrev pub _hasTokens_ : String → List ℕ → Type 0
+s hasTokens w = tokensOf (bytes s) ≡ 0 ∷ w
+
+-- the text has these records, by their words
+abbrev pub _hasRecords_ : String → List ℕ → Type 0
+s hasRecords w = reads (bytes s) ≡ 0 ∷ w
+
+-- the text is refused: number, start, end, expected kind, found kind
+abbrev pub _isRefused_ : String → List ℕ → Type 0
+s isRefused r = reads (bytes s) ≡ r
+
+-- the text is written so under the default settings
+abbrev pub _isWritten_ : String → String → Type 0
+s isWritten t = writes (bytes s) ≡ 0 ∷ bytes t
+
+-- the quoted string has this value, or is refused by this number
+abbrev pub _unquotesTo_ : String → String → Type 0
+s unquotesTo t = shows (bytes s) ≡ 0 ∷ bytes t
+
+abbrev pub _isNoString_ : String → ℕ → Type 0
+s isNoString n = shows (bytes s) ≡ n ∷ 0 ∷ 0 ∷ 0 ∷ 0 ∷ []
+
+-- the trees of two texts are equal, spans aside, or not
+abbrev pub _equals_ : String → String → Type 0
+s equals t = compares (bytes s) (bytes t) ≡ 0 ∷ 1 ∷ []
+
+abbrev pub _differsFrom_ : String → String → Type 0
+s differsFrom t = compares (bytes s) (bytes t) ≡ 0 ∷ 0 ∷ []

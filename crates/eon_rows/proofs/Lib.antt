@@ -1,6 +1,12 @@
 pub mod Computing
 pub mod Sheets
 pub mod Original
-pub mod Calls
+pub mod Texts
+pub mod Tokens
+pub mod Reading
+pub mod Layouts
 pub mod LayoutLengths
+pub mod Unquoting
+pub mod Comparing
+pub mod Calls
 pub mod Premises

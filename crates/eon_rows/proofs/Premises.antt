@@ -1,34 +1,60 @@
--- The premises of demand 3, by computing: texts at the edge of each meet them, and each is needed. (That the written text is within
--- 65,535 bytes is needed too: the evening's reading call refuses a longer one by 1.)
-use mathlib.Core.Path.{_≡_, refl}
+-- The premises of demand 3 (document 01, "Afternoon and evening"), by computing: texts at the edge of each meet them, and each is needed.
+use mathlib.Core.Path.{_≡_, refl, ap}
+use mathlib.Core.Bool.{Bool, true, false}
 use mathlib.Core.List.{List, [], _∷_, _++_}
 use Prim.Native.Nat.{ℕ}
 use native.Mathlib.Omega.{arith}
 use lib.ListN.{length, replicate, take, drop}
 use lib.Dec.{leb}
+use borrow.Author.Tests.{le-leb, leb-true}
 use Rattle.eon_spec.specs.Tree.{TokenTree}
 use Rattle.eon_spec.specs.Layout.{defaults, format}
-use Rattle.eon_spec.specs.Calls.{done, then, readText}
-use Rattle.eon_spec.specs.Runs.{Premises, noComments, everyVariant, holdsValue, fitsOrHoldsOne, depth, height}
-use Rattle.eon_rows.proofs.Computing.{reads, writes, compares, bytes, plain, number}
+use Rattle.eon_spec.specs.Calls.{Outcome, done, refusedWith, nowhere, after, then, readText, formatCall, checkedSettings}
+use Rattle.eon_spec.specs.Runs.{Premises, Suffices, runReads, runWrites, noComments, everyVariant, holdsValue, fitsOrHoldsOne, depth, height}
+use Rattle.eon_rows.proofs.Computing.{reads, writes, compares, bytes, plain, truth}
 
--- an event file meets them
-event : (t : TokenTree) × Premises (bytes "round:3\nbyes:[\"Half\"(7),\"Half\"(9), \"Other\"({a: [1 2 3 4 5]})]") t
-unfolding reads writes bytes noComments everyVariant depth height
-event = (_, record { accepted = refl; no-comments = refl; no-empty-variant = refl; variants-fit = refl; depth-63 = omega arith; written-length = omega arith })
-
--- 0 for an accepted text, then 1 for each premise that its tree meets: comments, empty parentheses, variants, depth, length
-met : List ℕ → List ℕ
+-- 1 for each premise on the tree that it meets, 0 for one that it does not: comments, empty parentheses, variants, depth, length
+unfoldable tests : TokenTree → List ℕ
 unfolding writes noComments everyVariant depth height
-met s =
-    plain
-    (then (readText s) λ t.
-    done (number (noComments t) ++ number (everyVariant holdsValue t) ++ number (everyVariant fitsOrHoldsOne t) ++ number (leb (depth t) 63) ++ number (leb (length (format defaults t)) 65535)))
+tests t = truth (noComments t) ++ truth (everyVariant holdsValue t) ++ truth (everyVariant fitsOrHoldsOne t) ++ truth (leb (depth t) 63) ++ truth (leb (length (format defaults t)) 65535)
+
+-- 0 for an accepted text, and its tree's tests
+unfoldable met : List ℕ → List ℕ
+unfolding tests
+met s = plain (then (readText s) λ t. done (tests t))
 
 abbrev allMet : List ℕ
 allMet = 0 ∷ 1 ∷ 1 ∷ 1 ∷ 1 ∷ 1 ∷ []
 
+-- ---- they are the premises: a text meets all exactly if it has a tree with which it meets the premises
+
+premises-met : (s : List ℕ) (t : TokenTree) → Premises s t → met s ≡ allMet
+unfolding met tests
+premises-met s t p = rw (p .accepted) (rw (p .no-comments) (rw (p .no-empty-variant) (rw (p .variants-fit) (rw (le-leb (depth t) 63 (p .depth-63)) (rw (le-leb (length (format defaults t)) 65535 (p .written-length)))))))
+
+each : (a b c d e : Bool) → truth a ++ truth b ++ truth c ++ truth d ++ truth e ≡ 1 ∷ 1 ∷ 1 ∷ 1 ∷ 1 ∷ [] → (a ≡ true) × (b ≡ true) × (c ≡ true) × (d ≡ true) × (e ≡ true)
+each true true true true true h = (refl, refl, refl, refl, refl)
+each false b c d e h = let y : _≡_ {A = ℕ} 0 1 = cc in absurd (omega arith)
+each true false c d e h = let y : _≡_ {A = ℕ} 0 1 = cc in absurd (omega arith)
+each true true false d e h = let y : _≡_ {A = ℕ} 0 1 = cc in absurd (omega arith)
+each true true true false e h = let y : _≡_ {A = ℕ} 0 1 = cc in absurd (omega arith)
+each true true true true false h = let y : _≡_ {A = ℕ} 0 1 = cc in absurd (omega arith)
+
+met-premises : (s : List ℕ) → met s ≡ allMet → (t : TokenTree) × Premises s t
+unfolding met tests
+met-premises s h = go (readText s) refl h
+  where
+    go : (o : Outcome TokenTree) → readText s ≡ o → plain (then o λ t. done (tests t)) ≡ allMet → (t : TokenTree) × Premises s t
+    go (done t) e h =
+        let b = each (noComments t) (everyVariant holdsValue t) (everyVariant fitsOrHoldsOne t) (leb (depth t) 63) (leb (length (format defaults t)) 65535) (ap (drop 1) h) in
+        (t, record { accepted = e; no-comments = b .0; no-empty-variant = b .1; variants-fit = b .2; depth-63 = leb-true (depth t) 63 (b .3); written-length = leb-true (length (format defaults t)) 65535 (b .4) })
+    go (refusedWith r) e h = let y : _≡_ {A = ℕ} 5 6 = ap length h in absurd (omega arith)
+
 -- ---- inside
+
+event : met (bytes "round:3\nbyes:[\"Half\"(7),\"Half\"(9), \"Other\"({a: [1 2 3 4 5]})]") ≡ allMet
+unfolding met bytes
+event = refl
 
 nothing : met (bytes "") ≡ allMet
 unfolding met bytes
@@ -58,6 +84,19 @@ depth-63 = refl
 depth-63-in-a-map : met (bytes "a:" ++ replicate 63 91 ++ bytes "1" ++ replicate 63 93) ≡ allMet
 unfolding met bytes
 depth-63-in-a-map = refl
+
+-- a pair whose written text is two bytes longer than it
+abbrev pairOf : ℕ → List ℕ
+pairOf n = bytes "a:'" ++ replicate n 97 ++ bytes "'"
+
+written-65535 : met (pairOf 65529) ≡ allMet
+unfolding met bytes
+written-65535 = refl
+
+-- memory that just suffices: fifteen words and six bytes
+just-enough : (t : TokenTree) × (readText (bytes "1 2") ≡ done t) × Suffices t (replicate 15 9) (replicate 6 7)
+unfolding reads writes bytes
+just-enough = (_, refl, record { records = omega arith; bytes = omega arith })
 
 -- ---- outside: what is written is read as another tree, or is refused
 
@@ -108,3 +147,21 @@ depth-64-met = refl
 depth-64 : take 1 (reads (drop 1 (writes (bytes "2 " ++ replicate 63 91 ++ bytes "1" ++ replicate 63 93)))) ≡ 4 ∷ []
 unfolding writes bytes
 depth-64 = refl
+
+-- a written text of 65,536 bytes: the evening's reading call refuses it by 1
+written-65536-met : met (pairOf 65530) ≡ 0 ∷ 1 ∷ 1 ∷ 1 ∷ 1 ∷ 0 ∷ []
+unfolding met bytes
+written-65536-met = refl
+
+written-65536 : take 1 (reads (drop 1 (writes (pairOf 65530)))) ≡ 1 ∷ []
+unfolding writes bytes
+written-65536 = refl
+
+-- a word or a byte fewer than suffices: the run's call refuses
+a-word-fewer : runReads (bytes "1 2") (replicate 14 9) ≡ after (refusedWith (nowhere 14)) (replicate 14 9)
+unfolding compares bytes
+a-word-fewer = refl
+
+a-byte-fewer : runWrites (bytes "1 2") (replicate 15 9) (replicate 5 7) ≡ after (refusedWith (nowhere 14)) (replicate 5 7)
+unfolding compares writes formatCall checkedSettings bytes
+a-byte-fewer = refl

@@ -1,61 +1,28 @@
 -- Document 01's "Sheets to try", by computing: P1 to P12 are the rows of one table, and the other sheets stand below it.
 use mathlib.Core.Path.{_≡_, refl}
-use mathlib.Core.List.{List, [], _∷_, _++_}
-use Prim.Native.Nat.{ℕ}
-use Prim.Native.String.{String}
+use mathlib.Core.List.{[], _∷_, _++_}
 use lib.ListN.{replicate, take}
-use Rattle.eon_rows.proofs.Computing.{reads, writes, unquotes, bytes}
+use Rattle.eon_rows.proofs.Computing.{reads, writes, shows, bytes, _hasRecords_, _isRefused_, _isWritten_, _isNoString_}
 
-data Row : Type 0 where
-  -- the text has these records, by their words
-  _hasRecords_ : String → List ℕ → Row
-  -- the text is written so
-  _isWritten_ : String → String → Row
-  -- the text is refused: number, start, end, expected kind, found kind
-  _isRefused_ : String → List ℕ → Row
-  -- the quoted string has this value, in bytes, or this refusal
-  _unquotesTo_ : String → List ℕ → Row
-  _unquotesBy_ : String → List ℕ → Row
-
-infix 50 _hasRecords_
-infix 50 _isWritten_
-infix 50 _isRefused_
-infix 50 _unquotesTo_
-infix 50 _unquotesBy_
-abbrev Holds : Row → Type 0
-Holds (s hasRecords w) = reads (bytes s) ≡ 0 ∷ w
-Holds (s isWritten t) = writes (bytes s) ≡ 0 ∷ bytes t
-Holds (s isRefused r) = reads (bytes s) ≡ r
-Holds (s unquotesTo b) = unquotes (bytes s) ≡ 0 ∷ b
-Holds (s unquotesBy r) = unquotes (bytes s) ≡ r
-
-abbrev All : List Row → Type 0
-All [] = Unit {0}
-All (r ∷ rs) = Holds r × All rs
-
-abbrev sheets : List Row
-sheets =
+sheets :
     ("" hasRecords 5 ∷ 0 ∷ 0 ∷ 0 ∷ 1 ∷ [])  -- P1
-    ∷ ("" isWritten "")
-    ∷ ("]" isRefused 13 ∷ 0 ∷ 1 ∷ 0 ∷ 0 ∷ [])  -- P2
-    ∷ ("a: ]" isRefused 6 ∷ 3 ∷ 4 ∷ 0 ∷ 0 ∷ [])  -- P3
-    ∷ ("a:" isRefused 5 ∷ 2 ∷ 2 ∷ 0 ∷ 0 ∷ [])  -- P4
-    ∷ ("[1" isRefused 12 ∷ 1 ∷ 2 ∷ 3 ∷ 0 ∷ [])  -- P5
-    ∷ ("[1}" isRefused 11 ∷ 2 ∷ 3 ∷ 3 ∷ 5 ∷ [])  -- P6
-    ∷ ("1 2" hasRecords 4 ∷ 0 ∷ 3 ∷ 3 ∷ 3 ∷ 2 ∷ 0 ∷ 1 ∷ 1 ∷ 1 ∷ 2 ∷ 2 ∷ 3 ∷ 3 ∷ 1 ∷ [])  -- P7
-    ∷ ("1 2" isWritten "[1, 2]")
-    ∷ ("\"A\"()" isWritten "\"A\"")  -- P8
-    ∷ ("42\n// c" isWritten "42")  -- P9
-    ∷ ("\"\\u{}\"" unquotesTo 0 ∷ [])  -- P10
-    ∷ ("'''" unquotesBy 18 ∷ 0 ∷ 0 ∷ 0 ∷ 0 ∷ [])  -- P11
-    ∷ ("#" isRefused 3 ∷ 0 ∷ 1 ∷ 0 ∷ 0 ∷ [])  -- P12
-    ∷ []
+    × ("" isWritten "")
+    × ("]" isRefused 13 ∷ 0 ∷ 1 ∷ 0 ∷ 0 ∷ [])  -- P2
+    × ("a: ]" isRefused 6 ∷ 3 ∷ 4 ∷ 0 ∷ 0 ∷ [])  -- P3
+    × ("a:" isRefused 5 ∷ 2 ∷ 2 ∷ 0 ∷ 0 ∷ [])  -- P4
+    × ("[1" isRefused 12 ∷ 1 ∷ 2 ∷ 3 ∷ 0 ∷ [])  -- P5
+    × ("[1}" isRefused 11 ∷ 2 ∷ 3 ∷ 3 ∷ 5 ∷ [])  -- P6
+    × ("1 2" hasRecords 4 ∷ 0 ∷ 3 ∷ 3 ∷ 3 ∷ 2 ∷ 0 ∷ 1 ∷ 1 ∷ 1 ∷ 2 ∷ 2 ∷ 3 ∷ 3 ∷ 1 ∷ [])  -- P7
+    × ("1 2" isWritten "[1, 2]")
+    × ("\"A\"()" isWritten "\"A\"")  -- P8
+    × ("42\n// c" isWritten "42")  -- P9
+    × (shows (bytes "\"\\u{}\"") ≡ 0 ∷ 0 ∷ [])  -- P10
+    × ("'''" isNoString 18)  -- P11
+    × ("#" isRefused 3 ∷ 0 ∷ 1 ∷ 0 ∷ 0 ∷ [])  -- P12
+unfolding reads writes shows bytes
+sheets = (refl, refl, refl, refl, refl, refl, refl, refl, refl, refl, refl, refl, refl, refl)
 
-sheets-hold : All sheets
-unfolding reads writes unquotes bytes
-sheets-hold = (refl, (refl, (refl, (refl, (refl, (refl, (refl, (refl, (refl, (refl, (refl, (refl, (refl, (refl, tt))))))))))))))
-
--- 64 `[` and 64 `]` are read; with `1` in the middle they are refused
+-- "64 `[` and 64 `]` are read; with `1` in the middle, 4 at 63,64"
 sixty-four : take 6 (reads (replicate 64 91 ++ replicate 64 93)) ≡ 0 ∷ 4 ∷ 0 ∷ 128 ∷ 128 ∷ 64 ∷ []
 unfolding reads
 sixty-four = refl
@@ -64,7 +31,7 @@ value-inside-sixty-four : reads (replicate 64 91 ++ bytes "1" ++ replicate 64 93
 unfolding reads bytes
 value-inside-sixty-four = refl
 
--- a list of one string of 57 bytes, quotes counted, is one line; 58 is not
+-- "A list of one string of 57 bytes, quotes counted, is one line; 58 is not. Five numbers take lines."
 string-57 : writes (bytes "[\"" ++ replicate 55 97 ++ bytes "\"]") ≡ 0 ∷ (bytes "[\"" ++ replicate 55 97 ++ bytes "\"]")
 unfolding writes bytes
 string-57 = refl
@@ -73,10 +40,11 @@ string-58 : writes (bytes "[\"" ++ replicate 56 97 ++ bytes "\"]") ≡ 0 ∷ (by
 unfolding writes bytes
 string-58 = refl
 
-five-numbers : writes (bytes "1 2 3 4 5") ≡ 0 ∷ bytes "[\n\t1\n\t2\n\t3\n\t4\n\t5\n]"
+five-numbers : "1 2 3 4 5" isWritten "[\n\t1\n\t2\n\t3\n\t4\n\t5\n]"
 unfolding writes bytes
 five-numbers = refl
 
-eonfmt-example : writes (bytes "round:3 // live\nbyes:[\"Half\"(7),\"Half\"(9)]\n") ≡ 0 ∷ bytes "round: 3 // live\nbyes: [\n\t\"Half\"(7)\n\t\"Half\"(9)\n]\n"
+-- eonfmt's example
+event-file : "round:3 // live\nbyes:[\"Half\"(7),\"Half\"(9)]\n" isWritten "round: 3 // live\nbyes: [\n\t\"Half\"(7)\n\t\"Half\"(9)\n]\n"
 unfolding writes bytes
-eonfmt-example = refl
+event-file = refl
