@@ -10,3 +10,4 @@ pub mod Unquoting
 pub mod Comparing
 pub mod Calls
 pub mod Premises
+pub mod LongestWritten

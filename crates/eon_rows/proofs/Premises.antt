@@ -1,4 +1,5 @@
--- The premises of demand 3 (document 01, "Afternoon and evening"), by computing: texts at the edge of each meet them, and each is needed.
+-- The premises of demand 3 (document 01, "Afternoon and evening"), by computing: texts at the edge of each meet them, and each is needed
+-- (for the written text's length: LongestWritten).
 use mathlib.Core.Path.{_≡_, refl, ap}
 use mathlib.Core.Bool.{Bool, true, false}
 use mathlib.Core.List.{List, [], _∷_, _++_}
@@ -14,16 +15,16 @@ use Rattle.eon_spec.specs.Runs.{Premises, Suffices, runReads, runWrites, noComm
 use Rattle.eon_rows.proofs.Computing.{reads, writes, compares, bytes, plain, truth}
 
 -- 1 for each premise on the tree that it meets, 0 for one that it does not: comments, empty parentheses, variants, depth, length
-unfoldable tests : TokenTree → List ℕ
+unfoldable pub tests : TokenTree → List ℕ
 unfolding writes noComments everyVariant depth height
 tests t = truth (noComments t) ++ truth (everyVariant holdsValue t) ++ truth (everyVariant fitsOrHoldsOne t) ++ truth (leb (depth t) 63) ++ truth (leb (length (format defaults t)) 65535)
 
 -- 0 for an accepted text, and its tree's tests
-unfoldable met : List ℕ → List ℕ
+unfoldable pub met : List ℕ → List ℕ
 unfolding tests
 met s = plain (then (readText s) λ t. done (tests t))
 
-abbrev allMet : List ℕ
+abbrev pub allMet : List ℕ
 allMet = 0 ∷ 1 ∷ 1 ∷ 1 ∷ 1 ∷ 1 ∷ []
 
 -- ---- they are the premises: a text meets all exactly if it has a tree with which it meets the premises
@@ -85,14 +86,6 @@ depth-63-in-a-map : met (bytes "a:" ++ replicate 63 91 ++ bytes "1" ++ replicate
 unfolding met bytes
 depth-63-in-a-map = refl
 
--- a pair whose written text is two bytes longer than it
-abbrev pairOf : ℕ → List ℕ
-pairOf n = bytes "a:'" ++ replicate n 97 ++ bytes "'"
-
-written-65535 : met (pairOf 65529) ≡ allMet
-unfolding met bytes
-written-65535 = refl
-
 -- memory that just suffices: fifteen words and six bytes
 just-enough : (t : TokenTree) × (readText (bytes "1 2") ≡ done t) × Suffices t (replicate 15 9) (replicate 6 7)
 unfolding reads writes bytes
@@ -147,15 +140,6 @@ depth-64-met = refl
 depth-64 : take 1 (reads (drop 1 (writes (bytes "2 " ++ replicate 63 91 ++ bytes "1" ++ replicate 63 93)))) ≡ 4 ∷ []
 unfolding writes bytes
 depth-64 = refl
-
--- a written text of 65,536 bytes: the evening's reading call refuses it by 1
-written-65536-met : met (pairOf 65530) ≡ 0 ∷ 1 ∷ 1 ∷ 1 ∷ 1 ∷ 0 ∷ []
-unfolding met bytes
-written-65536-met = refl
-
-written-65536 : take 1 (reads (drop 1 (writes (pairOf 65530)))) ≡ 1 ∷ []
-unfolding writes bytes
-written-65536 = refl
 
 -- a word or a byte fewer than suffices: the run's call refuses
 a-word-fewer : runReads (bytes "1 2") (replicate 14 9) ≡ after (refusedWith (nowhere 14)) (replicate 14 9)
