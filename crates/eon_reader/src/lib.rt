@@ -83,6 +83,16 @@ pub fn behind<'a>(r: Reader<'a>, t: PlacedToken) -> Reader<'a>
     }
 }
 
+// The next token; the reader then stands behind it.
+pub fn next<'s, 'a>(r: &'s mut Reader<'a>) -> PlacedToken
+    requires { ⌜ Stands (now (now r .text)) (now r .next) ⌝ }
+    ensures { λ t. ⌜ (t ≡ placedAt (now (now (r .entry) .text)) (now (r .entry) .next)) × (now (r .exit) .text ≡ now (r .entry) .text) × (now (r .exit) .next ≡ t .end) × Stands (now (now (r .exit) .text)) (now (r .exit) .next) ⌝ }
+{
+    let t = token_at(r.text, r.next);
+    r.next = t.end;
+    t
+}
+
 // The first token of any bytes: the end of the text if they are not well-formed.
 pub fn first(text: &[u8]) -> PlacedToken
     ensures { λ r. ⌜ r ≡ firstToken (now (text .entry)) ⌝ }
