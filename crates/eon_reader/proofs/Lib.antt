@@ -1,2 +1,4 @@
 pub mod Stand
 pub mod Examples
+pub mod Typed
+pub mod Local

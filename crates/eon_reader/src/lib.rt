@@ -64,25 +64,6 @@ pub fn new<'a>(text: &'a [u8]) -> Reader<'a>
     Reader { text, next }
 }
 
-// The next token.
-pub fn token<'a>(r: Reader<'a>) -> PlacedToken
-    requires { ⌜ Stands (now (r .text)) (r .next) ⌝ }
-    ensures { λ t. ⌜ t ≡ placedAt (now (r .entry .text)) (r .entry .next) ⌝ }
-{
-    token_at(r.text, r.next)
-}
-
-// The reader behind its next token.
-pub fn behind<'a>(r: Reader<'a>, t: PlacedToken) -> Reader<'a>
-    requires { ⌜ Stands (now (r .text)) (r .next) × (t ≡ placedAt (now (r .text)) (r .next)) ⌝ }
-    ensures { λ q. ⌜ (q .text ≡ r .entry .text) × (q .next ≡ t .end) × Stands (now (q .text)) (q .next) ⌝ }
-{
-    Reader {
-        text: r.text,
-        next: t.end,
-    }
-}
-
 // The next token; the reader then stands behind it.
 pub fn next<'s, 'a>(r: &'s mut Reader<'a>) -> PlacedToken
     requires { ⌜ Stands (now (now r .text)) (now r .next) ⌝ }
@@ -97,16 +78,17 @@ pub fn next<'s, 'a>(r: &'s mut Reader<'a>) -> PlacedToken
 pub fn first(text: &[u8]) -> PlacedToken
     ensures { λ r. ⌜ r ≡ firstToken (now (text .entry)) ⌝ }
 {
-    token(new(text))
+    let mut r = new(text);
+    next(&mut r)
 }
 
 // The second token of any bytes: a reader is moved on.
 pub fn second(text: &[u8]) -> PlacedToken
     ensures { λ r. ⌜ r ≡ secondToken (now (text .entry)) ⌝ }
 {
-    let r = new(text);
-    let t = token(r);
-    token(behind(r, t))
+    let mut r = new(text);
+    next(&mut r);
+    next(&mut r)
 }
 
 // How many tokens a checked text has, or the first invalid one.
