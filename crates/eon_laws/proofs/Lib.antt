@@ -8,6 +8,7 @@ pub mod Cut
 pub mod Token
 pub mod Word
 pub mod Parse
+pub mod InsideEnds
 pub mod Records
 pub mod Bytes
 pub mod Sources

@@ -223,11 +223,7 @@ cond-number false r q g h = h
 none-left : (c : Cursor) (t : TokenTree) → Numbered (noneLeft c t)
 unfolding noneLeft
 none-left (behind l []) t = tt
-none-left (behind l (x ∷ xs)) t = go (isKind (x .kind) Invalid)
-  where
-    go : (b : Bool) → (3 ≤ cond b 3 13) × (cond b 3 13 ≤ 13)
-    go true = (omega arith, omega arith)
-    go false = (omega arith, omega arith)
+none-left (behind l (x ∷ xs)) t = (omega arith, omega arith)
 
 top-numbered : (len n : ℕ) (m : Read TokenMap) (l : Read TokenList) → Good n m → Good n l → Numbered (topOf len m l)
 top-numbered len n (read m c) l g h = none-left c _

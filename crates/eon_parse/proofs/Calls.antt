@@ -140,7 +140,7 @@ module _ (s tb : List ℕ) (u8 : isUtf8 s ≡ true) (short : length s ≤ 65535)
 
   end-way : (l : Span) (x : Shape) → Way x → Way (ended s l x)
   unfolding ended
-  end-way l x w = go (eqb (kindAt s l) 16) (refusal (cond (eqb (kindAt s l) 0) 3 13) (nextSpan s l))
+  end-way l x w = go (eqb (kindAt s l) 16) (refusal 13 (nextSpan s l))
     where
       go : (b : Bool) (r : Refusal) → Way (cond b x (denied r))
       go true r = w

@@ -26,7 +26,7 @@ use Rattle.eon_token.specs.declared.token_kind.PlacedToken.{PlacedToken}
 use Rattle.eon_token.specs.declared.cursor.Cursor.{Cursor}
 use Rattle.eon_parse.specs.Walk.{Out, refuse, got, Records, header, run, endOf, stops, one, two, inside, below}
 use Rattle.eon_parse.specs.Top.{Shape, denied, asMap, asSingle, asSeveral, Whole, denies, gives, wholeOf, shapeWhole, ended, severalBy, listBy, mapBy, topAt}
-use Rattle.eon_parse.specs.Tops.{furtherBy, strayOf}
+use Rattle.eon_parse.specs.Tops.{furtherBy, surplusOf}
 use Rattle.eon_parse.specs.Answer.{stopOf, place, Ready}
 use Rattle.eon_parse.specs.Call.{FilledW, FilledO, wentTo, endedBy, Roomy, Written, countOf}
 use Rattle.eon_parse.specs.declared.Walk.{Walk}
@@ -58,11 +58,11 @@ clash z = absurd (omega arith)
 -- ---- what is answered by that walk
 
 pub end-here : (t u : PlacedToken) → t ≡ u → t .kind ≡ 16 → (n : ℕ) → Done n ≡ endedBy u n
-end-here t u q e n = sym (ap (λ (z : Bool). cond z (Done n) (Refused (strayOf u))) (eq-eqb (u .kind) 16 (sym (ap (λ (v : PlacedToken). v .kind) q) ∙ e)))
+end-here t u q e n = sym (ap (λ (z : Bool). cond z (Done n) (Refused (surplusOf u))) (eq-eqb (u .kind) 16 (sym (ap (λ (v : PlacedToken). v .kind) q) ∙ e)))
 
-pub end-stray : (t u : PlacedToken) → t ≡ u → (t .kind ≡ 16 → ⊥) → (n : ℕ) (r : Refusal) → r ≡ strayOf t → Refused r ≡ endedBy u n
-end-stray t u q e n r h =
-    ap Refused (h ∙ ap strayOf q) ∙ sym (ap (λ (z : Bool). cond z (Done n) (Refused (strayOf u))) (ne-eqb (u .kind) 16 (λ z. e (ap (λ (v : PlacedToken). v .kind) q ∙ z))))
+pub end-surplus : (t u : PlacedToken) → t ≡ u → (t .kind ≡ 16 → ⊥) → (n : ℕ) (r : Refusal) → r ≡ surplusOf t → Refused r ≡ endedBy u n
+end-surplus t u q e n r h =
+    ap Refused (h ∙ ap surplusOf q) ∙ sym (ap (λ (z : Bool). cond z (Done n) (Refused (surplusOf u))) (ne-eqb (u .kind) 16 (λ z. e (ap (λ (v : PlacedToken). v .kind) q ∙ z))))
 
 module _ (s : List ℕ) (tb′ : List ℕ) where
   -- the records are there, and nothing may follow
@@ -71,7 +71,7 @@ module _ (s : List ℕ) (tb′ : List ℕ) where
   unfolding ended
   end-written l x ts e n h q = go (eqb (kindAt s l) 16)
     where
-      go : (b : Bool) → Written (shapeWhole (cond b x (denied (refusal (cond (eqb (kindAt s l) 0) 3 13) (nextSpan s l))))) (cond b (Done n) (Refused (strayOf (placedAt s (l .end))))) tb′
+      go : (b : Bool) → Written (shapeWhole (cond b x (denied (refusal 13 (nextSpan s l))))) (cond b (Done n) (Refused (surplusOf (placedAt s (l .end))))) tb′
       go true = subst (λ (w : Whole). Written w (Done n) tb′) (sym e) (ap Done h, q)
       go false = refl
 

@@ -17,7 +17,7 @@ use Rattle.eon_token.specs.Place.{Spot, span, placeOf, cursorAt, kindAt, nextSp
 use Rattle.eon_parse.specs.Walk.{Out, refuse, got, Records, run, endOf, stops, one, two, inside, header, below}
 use Rattle.eon_parse.specs.Top.{Shape, denied, asMap, asSingle, asSeveral, ended, severalBy, listBy, mapBy, topAt}
 use Rattle.eon_parse.specs.Answer.{agrees, stopOf, place, Ready, emit, entered}
-use Rattle.eon_parse.specs.Tops.{furtherBy, strayOf, wholeSame, endBy, endMap, endSeveral, endSingle, severalTop, listTop, topView}
+use Rattle.eon_parse.specs.Tops.{furtherBy, surplusOf, wholeSame, endBy, endMap, endSeveral, endSingle, severalTop, listTop, topView}
 use Rattle.eon_token.specs.declared.token_kind.PlacedToken.{PlacedToken}
 use Rattle.eon_token.specs.declared.cursor.Cursor.{Cursor}
 use Rattle.eon_parse.specs.declared.Walk.{Walk}
@@ -35,15 +35,12 @@ further-second a b h = sym (ap (λ (z : Bool). cond z (b .refusal) (a .refusal))
 pub further-first : (a b : Stop) → b .consumed ≤ a .consumed → a .refusal ≡ furtherBy a b
 further-first a b h = sym (ap (λ (z : Bool). cond z (b .refusal) (a .refusal)) (le-ltb _ _ h))
 
-pub stray-is : (t : PlacedToken) (b : Bool) → eqb (t .kind) 0 ≡ b → refusal (cond b 3 13) (span (t .start) (t .end)) ≡ strayOf t
-stray-is t b e = ap (λ (z : Bool). refusal (cond z 3 13) (span (t .start) (t .end))) (sym e)
-
 pub end-clear : (t u : PlacedToken) → t ≡ u → t .kind ≡ 16 → (y : Top) → y ≡ endBy u y
-end-clear t u q e y = sym (ap (λ (z : Bool). cond z y (Denied (strayOf u))) (eq-eqb (u .kind) 16 (sym (ap (λ (v : PlacedToken). v .kind) q) ∙ e)))
+end-clear t u q e y = sym (ap (λ (z : Bool). cond z y (Denied (surplusOf u))) (eq-eqb (u .kind) 16 (sym (ap (λ (v : PlacedToken). v .kind) q) ∙ e)))
 
-pub end-left : (t u : PlacedToken) → t ≡ u → (t .kind ≡ 16 → ⊥) → (y : Top) (r : Refusal) → r ≡ strayOf t → Denied r ≡ endBy u y
+pub end-left : (t u : PlacedToken) → t ≡ u → (t .kind ≡ 16 → ⊥) → (y : Top) (r : Refusal) → r ≡ surplusOf t → Denied r ≡ endBy u y
 end-left t u q e y r h =
-    ap Denied (h ∙ ap strayOf q) ∙ sym (ap (λ (z : Bool). cond z y (Denied (strayOf u))) (ne-eqb (u .kind) 16 (λ z. e (ap (λ (v : PlacedToken). v .kind) q ∙ z))))
+    ap Denied (h ∙ ap surplusOf q) ∙ sym (ap (λ (z : Bool). cond z y (Denied (surplusOf u))) (ne-eqb (u .kind) 16 (λ z. e (ap (λ (v : PlacedToken). v .kind) q ∙ z))))
 
 -- ---- a list of several, or one
 
@@ -104,7 +101,7 @@ module _ (s tb : List ℕ) (b : Bool) where
   unfolding ended
   end-view l x = go (eqb (kindAt s l) 16)
     where
-      go : (z : Bool) → cond z (topView tb b x) (Denied (strayOf (placedAt s (l .end)))) ≡ topView tb b (cond z x (denied (refusal (cond (eqb (kindAt s l) 0) 3 13) (nextSpan s l))))
+      go : (z : Bool) → cond z (topView tb b x) (Denied (surplusOf (placedAt s (l .end)))) ≡ topView tb b (cond z x (denied (refusal 13 (nextSpan s l))))
       go true = refl
       go false = refl
 

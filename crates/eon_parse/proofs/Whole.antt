@@ -52,14 +52,14 @@ module _ (s : List ℕ) (u8 : isUtf8 s ≡ true) where
   none-left n b t x h = go (see s n b)
     where
       E : ℕ → Shape
-      E k = cond (eqb k 16) x (denied (refusal (cond (eqb k 0) 3 13) (nextSpan s n)))
+      E k = cond (eqb k 16) x (denied (refusal 13 (nextSpan s n)))
 
       go : Seen s n → wholeOf (noneLeft (C s n) t) ≡ shapeWhole (ended s n x)
       go (over k e) = ap (λ (ts : List Token). wholeOf (noneLeft (behind n ts) t)) e ∙ h ∙ sym (ap (λ (m : ℕ). shapeWhole (E m)) k)
       go (comes y e p k f g) =
           ap (λ (ts : List Token). wholeOf (noneLeft (behind n ts) t)) e
-          ∙ ap (λ (sp : Span). denies (refusal (cond (isKind (y .kind) Invalid) 3 13) sp)) p
-          ∙ sym (ap (λ (b : Bool). shapeWhole (cond b x (denied (refusal (cond (eqb (kindNumber (y .kind)) 0) 3 13) (nextSpan s n))))) (ne-eqb (kindNumber (y .kind)) 16 (λ z. omega (arith, kind-small (y .kind)))))
+          ∙ ap (λ (sp : Span). denies (refusal 13 sp)) p
+          ∙ sym (ap (λ (b : Bool). shapeWhole (cond b x (denied (refusal 13 (nextSpan s n))))) (ne-eqb (kindNumber (y .kind)) 16 (λ z. omega (arith, kind-small (y .kind)))))
           ∙ ap (λ (m : ℕ). shapeWhole (E m)) k
 
   same-args : (l : Span) → Spot s l → Same s (Shown s) (value (C s l)) (by l)

@@ -17,7 +17,7 @@ use Rattle.eon_spec.specs.declared.Answer.the-variants.{Refused, Done}
 use Rattle.eon_token.specs.Place.{cursorAt}
 use Rattle.eon_token.specs.declared.token_kind.PlacedToken.{PlacedToken}
 use Rattle.eon_parse.specs.Top.{Whole, denies, gives}
-use Rattle.eon_parse.specs.Tops.{strayOf}
+use Rattle.eon_parse.specs.Tops.{surplusOf}
 use Rattle.eon_parse.specs.Answer.{stopOf}
 use Rattle.eon_parse.specs.declared.Bare.{Bare}
 
@@ -41,7 +41,7 @@ wentTo s n (got ts l) = Bare.Done (record { cursor = cursorAt s l; count = n + l
 
 -- n records, if the text ends here
 abbrev pub endedBy : PlacedToken → ℕ → Answer
-endedBy t n = cond (eqb (t .kind) 16) (Done n) (Refused (strayOf t))
+endedBy t n = cond (eqb (t .kind) 16) (Done n) (Refused (surplusOf t))
 
 -- a checked text, and room for as many records as it may have
 abbrev pub Roomy : List ℕ → List ℕ → Type 0

@@ -36,7 +36,7 @@ topDepth = 128
 
 -- nothing may follow
 unfoldable pub ended : List ℕ → Span → Shape → Shape
-ended s l x = cond (eqb (kindAt s l) 16) x (denied (refusal (cond (eqb (kindAt s l) 0) 3 13) (nextSpan s l)))
+ended s l x = cond (eqb (kindAt s l) 16) x (denied (refusal 13 (nextSpan s l)))
 
 unfoldable pub severalBy : List ℕ → Refusal → ℕ → Out Records → Shape
 severalBy s ra la (refuse rb lb) = denied (further ra la rb lb)

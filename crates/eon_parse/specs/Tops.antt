@@ -21,15 +21,15 @@ use Rattle.eon_parse.specs.declared.Top.the-variants.{Denied, Map, Singl
 abbrev pub furtherBy : Stop → Stop → Refusal
 furtherBy a b = cond (ltb (a .consumed) (b .consumed)) (b .refusal) (a .refusal)
 
-abbrev pub strayOf : PlacedToken → Refusal
-strayOf t = refusal (cond (eqb (t .kind) 0) 3 13) (span (t .start) (t .end))
+abbrev pub surplusOf : PlacedToken → Refusal
+surplusOf t = refusal 13 (span (t .start) (t .end))
 
 abbrev pub wholeSame : List ℕ → Walk → ℕ → ℕ → Bool
 wholeSame tb x kind len = cond (x .same) (agrees tb 0 (kind ∷ 0 ∷ len ∷ len ∷ x .count ∷ [])) false
 
 -- a trailing token is refused
 abbrev pub endBy : PlacedToken → Top → Top
-endBy t y = cond (eqb (t .kind) 16) y (Denied (strayOf t))
+endBy t y = cond (eqb (t .kind) 16) y (Denied (surplusOf t))
 
 abbrev pub endMap : ℕ → List ℕ → Walk → Top
 endMap len tb x = endBy (x .cursor .peeked) (Map (x .count) (wholeSame tb x 5 len))

@@ -13,7 +13,7 @@ ghost use Rattle.eon_parse.specs.Answer.{holds, agrees, stopOf, Ready, p
 ghost use Rattle.eon_parse.specs.Top.{topAt, listBy, severalBy, shapeWhole};
 ghost use Rattle.eon_parse.specs.Call.{FilledW, FilledO, wentTo, endedBy, Roomy, Written, countOf, placedAnswer};
 ghost use Rattle.eon_spec.specs.Calls.{after, outcomeOf, then, readText, readCall, readFinished};
-ghost use Rattle.eon_parse.specs.Tops.{furtherBy, strayOf, wholeSame, endMap, endSeveral, endSingle, severalTop, listTop, topView};
+ghost use Rattle.eon_parse.specs.Tops.{furtherBy, surplusOf, wholeSame, endMap, endSeveral, endSingle, severalTop, listTop, topView};
 
 pub mod token_tree;
 
@@ -868,12 +868,9 @@ fn further_of(a: Stop, b: Stop) -> Refusal
 }
 
 // A token that stands behind the end.
-fn stray(t: PlacedToken) -> Refusal
-    ensures { λ r. ⌜ r ≡ strayOf t ⌝ }
+fn surplus(t: PlacedToken) -> Refusal
+    ensures { λ r. ⌜ r ≡ surplusOf t ⌝ }
 {
-    if t.kind == STRAY {
-        return refusal(3, t.start, t.end);
-    }
     refusal(13, t.start, t.end)
 }
 
@@ -899,7 +896,7 @@ fn end_map(text: &[u8], table: &[u32], x: Walk) -> Top
         let same = whole_is(table, x, 5, text.len());
         return Top::Map(x.count, same);
     }
-    Top::Denied(stray(t))
+    Top::Denied(surplus(t))
 }
 
 // A list that spans the text, if nothing follows.
@@ -912,7 +909,7 @@ fn end_several(text: &[u8], table: &[u32], x: Walk) -> Top
         let same = whole_is(table, x, 4, text.len());
         return Top::Several(x.count, same);
     }
-    Top::Denied(stray(t))
+    Top::Denied(surplus(t))
 }
 
 // One value, if only comments follow.
@@ -926,7 +923,7 @@ fn end_single(text: &[u8], y: Walk) -> Top
     if t.kind == END {
         return Top::Single(y.count, y.same);
     }
-    Top::Denied(stray(t))
+    Top::Denied(surplus(t))
 }
 
 // The text as a list of several values.
@@ -1061,7 +1058,7 @@ fn ended(x: Walk) -> Answer
     if t.kind == END {
         return Answer::Done(x.count);
     }
-    Answer::Refused(stray(t))
+    Answer::Refused(surplus(t))
 }
 
 fn once_several(text: &[u8], table: &mut [u32], a: Stop) -> Answer

@@ -228,10 +228,10 @@ pub data Parsed : Type 0 where
   parsed : TokenTree → Parsed
   refusedBy : Refusal → Parsed
 
--- check_for_trailing_tokens: a further token gives 13, or 3 if it is invalid
+-- check_for_trailing_tokens: "one further token, always a closing one, gives 13" (eon_laws, InsideEnds)
 unfoldable pub noneLeft : Cursor → TokenTree → Parsed
 noneLeft (behind l []) t = parsed t
-noneLeft (behind l (x ∷ xs)) t = refusedBy (refusal (cond (isKind (x .kind) Invalid) 3 13) (spanOf x))
+noneLeft (behind l (x ∷ xs)) t = refusedBy (refusal 13 (spanOf x))
 
 -- one value is the tree, several are a list that spans the text
 abbrev pub topList : ℕ → TokenTrees → List Slice → TokenTree

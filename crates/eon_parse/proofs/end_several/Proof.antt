@@ -17,15 +17,15 @@ returns c =
     let peek = c .before .before .before .peek in
     ap (Several (args .x .count)) (c .whole-is .ensures) ∙ end-clear (peek .result) (args .x .cursor .peeked) (peek .ensures) (c .before .if1 .taken) _
 
-stray-requires : tie.Need-stray-requires
-stray-requires c κs = search needs
+surplus-requires : tie.Need-surplus-requires
+surplus-requires c κs = search needs
 
 returns-2 : tie.Need-returns-2
 returns-2 c =
     let args = c .before .before .before .before .before .before .before .args in
     let peek = c .before .before .before .peek in
-    end-left (peek .result) (args .x .cursor .peeked) (peek .ensures) (c .before .if1 .left) _ (c .stray .result) (c .stray .ensures)
+    end-left (peek .result) (args .x .cursor .peeked) (peek .ensures) (c .before .if1 .left) _ (c .surplus .result) (c .surplus .ensures)
 
 pub end-several-spec : {M : Type 1} → statement M
 end-several-spec =
-    tie.close (tie.spec peek-requires whole-is-requires returns stray-requires returns-2)
+    tie.close (tie.spec peek-requires whole-is-requires returns surplus-requires returns-2)

@@ -28,8 +28,8 @@ returns c =
     let s = now (args .text) in
     end-clear (peek .result) (cursorAt s (endOf (run s 7 (place (args .y)))) .peeked) (peek .ensures ∙ ap (λ (y : Cursor). y .peeked) (c .before .before .before .ahead .ensures)) (c .if1 .taken) _
 
-stray-requires : tie.Need-stray-requires
-stray-requires c κs = search needs
+surplus-requires : tie.Need-surplus-requires
+surplus-requires c κs = search needs
 
 returns-2 : tie.Need-returns-2
 returns-2 c =
@@ -37,8 +37,8 @@ returns-2 c =
     let ahead = c .before .before .before .before .ahead in
     let peek = c .before .before .before .peek in
     let s = now (args .text) in
-    end-left (peek .result) (cursorAt s (endOf (run s 7 (place (args .y)))) .peeked) (peek .ensures ∙ ap (λ (y : Cursor). y .peeked) (ahead .ensures)) (c .before .if1 .left) _ (c .stray .result) (c .stray .ensures)
+    end-left (peek .result) (cursorAt s (endOf (run s 7 (place (args .y)))) .peeked) (peek .ensures ∙ ap (λ (y : Cursor). y .peeked) (ahead .ensures)) (c .before .if1 .left) _ (c .surplus .result) (c .surplus .ensures)
 
 pub end-single-spec : {M : Type 1} → statement M
 end-single-spec =
-    tie.close (tie.spec ahead-requires peek-requires returns stray-requires returns-2)
+    tie.close (tie.spec ahead-requires peek-requires returns surplus-requires returns-2)

@@ -1,5 +1,5 @@
 use borrow.Author.Needs.{needs}
-use Rattle.eon_parse.proofs.OneWalk.{end-here, end-stray}
+use Rattle.eon_parse.proofs.OneWalk.{end-here, end-surplus}
 use Rattle.eon_parse.proofs.ended.Statement.{statement}
 use Rattle.eon_parse.proofs.ended.Tie as tie
 
@@ -12,14 +12,14 @@ returns c =
     let peek = c .before .before .peek in
     end-here (peek .result) (args .x .cursor .peeked) (peek .ensures) (c .if1 .taken) (args .x .count)
 
-stray-requires : tie.Need-stray-requires
-stray-requires c κs = search needs
+surplus-requires : tie.Need-surplus-requires
+surplus-requires c κs = search needs
 
 returns-2 : tie.Need-returns-2
 returns-2 c =
     let args = c .before .before .before .before .before .args in
     let peek = c .before .before .before .peek in
-    end-stray (peek .result) (args .x .cursor .peeked) (peek .ensures) (c .before .if1 .left) (args .x .count) (c .stray .result) (c .stray .ensures)
+    end-surplus (peek .result) (args .x .cursor .peeked) (peek .ensures) (c .before .if1 .left) (args .x .count) (c .surplus .result) (c .surplus .ensures)
 
 pub ended-spec : {M : Type 1} → statement M
-ended-spec = tie.close (tie.spec peek-requires returns stray-requires returns-2)
+ended-spec = tie.close (tie.spec peek-requires returns surplus-requires returns-2)
