@@ -10,7 +10,7 @@ use Rattle.eon_spec.specs.declared.Setting.{Setting}
 use Rattle.eon_spec.specs.declared.Which.the-variants.{Quoted, Scratch}
 use Rattle.eon_spec.specs.Parse.{refusal}
 use Rattle.eon_spec.specs.Layout.{setting, settingsOf, defaults, defaultOptions}
-use Rattle.eon_spec.specs.Calls.{done, refusedWith, nowhere, place, After, after, afterBoth, partOf, readCall, formatCall, reformatCall, fillBoth, compareCall, checkedSettings, unquoteCall, showCall}
+use Rattle.eon_spec.specs.Calls.{done, refusedWith, nowhere, place, After, after, afterBoth, Part, partOf, readCall, formatCall, reformatCall, fillBoth, compareCall, checkedSettings, unquoteCall, showCall, shownPlace}
 use Rattle.eon_rows.proofs.Computing.{reads, writes, bytes, compares, shows}
 
 -- the words of `1 2` and of `1`
@@ -65,14 +65,30 @@ unfolding compares writes formatCall checkedSettings bytes
 layout-without-room = refl
 
 -- the options' own texts and flag are used
-layout-by-options : formatCall (bytes "a:1") (5 ∷ 0 ∷ 3 ∷ 3 ∷ 3 ∷ 1 ∷ 0 ∷ 1 ∷ 1 ∷ 1 ∷ 2 ∷ 2 ∷ 3 ∷ 3 ∷ 1 ∷ []) (record { indentation = setting (bytes "<i>"); newline = setting (bytes "<n>"); «space_before_suffix_comment» = setting []; «key_value_separator» = setting (bytes "="); «always_include_outer_braces» = true }) (replicate 14 0) ≡ after (done 14) (bytes "{<n><i>a=1<n>}")
+abbrev wordsA1 : List ℕ
+wordsA1 = 5 ∷ 0 ∷ 3 ∷ 3 ∷ 3 ∷ 1 ∷ 0 ∷ 1 ∷ 1 ∷ 1 ∷ 2 ∷ 2 ∷ 3 ∷ 3 ∷ 1 ∷ []
+
+abbrev marked : FormatOptions
+marked =
+    record {
+      indentation = setting (bytes "<i>");
+      newline = setting (bytes "<n>");
+      «space_before_suffix_comment» = setting [];
+      «key_value_separator» = setting (bytes "=");
+      «always_include_outer_braces» = true;
+    }
+
+layout-by-options : formatCall (bytes "a:1") wordsA1 marked (replicate 14 0) ≡ after (done 14) (bytes "{<n><i>a=1<n>}")
 unfolding compares writes formatCall checkedSettings bytes
 layout-by-options = refl
 
 -- ---- 15: "table too short, or its first records differ from what reading this text gives; words after them are ignored"
 
 -- each word of a record is looked at
-one-word-off : map (λ (w : List ℕ). formatCall (bytes "1") w defaultOptions (7 ∷ [])) ((3 ∷ 0 ∷ 1 ∷ 1 ∷ 1 ∷ []) ∷ (2 ∷ 1 ∷ 1 ∷ 1 ∷ 1 ∷ []) ∷ (2 ∷ 0 ∷ 0 ∷ 1 ∷ 1 ∷ []) ∷ (2 ∷ 0 ∷ 1 ∷ 0 ∷ 1 ∷ []) ∷ (2 ∷ 0 ∷ 1 ∷ 1 ∷ 2 ∷ []) ∷ []) ≡ replicate 5 (after (refusedWith (nowhere 15)) (7 ∷ []))
+abbrev oneWordOff : List (List ℕ)
+oneWordOff = (3 ∷ 0 ∷ 1 ∷ 1 ∷ 1 ∷ []) ∷ (2 ∷ 1 ∷ 1 ∷ 1 ∷ 1 ∷ []) ∷ (2 ∷ 0 ∷ 0 ∷ 1 ∷ 1 ∷ []) ∷ (2 ∷ 0 ∷ 1 ∷ 0 ∷ 1 ∷ []) ∷ (2 ∷ 0 ∷ 1 ∷ 1 ∷ 2 ∷ []) ∷ []
+
+one-word-off : map (λ (w : List ℕ). formatCall (bytes "1") w defaultOptions (7 ∷ [])) oneWordOff ≡ replicate 5 (after (refusedWith (nowhere 15)) (7 ∷ []))
 unfolding compares writes formatCall checkedSettings bytes
 one-word-off = refl
 
@@ -288,3 +304,13 @@ beyond-the-scratch = refl
 beyond-the-quoted : showCall (partOf Quoted 1 4) (bytes "'ab'") (replicate 9 7) ≡ []
 unfolding showCall bytes
 beyond-the-quoted = refl
+
+-- where the bytes stand, with the quoted slice from byte 100 of block 1 on and the scratch from byte 200 of block 2 on
+standing : map (λ (p : Part). shownPlace p (bytes "'ab'") (7 ∷ 8 ∷ 9 ∷ []) (1, 100) (2, 200)) (partOf Quoted 1 2 ∷ partOf Scratch 1 2 ∷ partOf Quoted 4 0 ∷ []) ≡ (1, 101) ∷ (2, 201) ∷ (1, 104) ∷ []
+unfolding shownPlace bytes
+standing = refl
+
+-- "the empty beginning of the quoted slice", also beyond the scratch
+standing-beyond : map (λ (p : Part). shownPlace p (bytes "'ab'") (7 ∷ 8 ∷ 9 ∷ []) (1, 100) (2, 200)) (partOf Quoted 1 4 ∷ partOf Scratch 1 3 ∷ []) ≡ (1, 100) ∷ (1, 100) ∷ []
+unfolding shownPlace bytes
+standing-beyond = refl

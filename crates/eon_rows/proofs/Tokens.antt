@@ -7,7 +7,9 @@ use Rattle.eon_rows.proofs.Computing.{tokensOf, bytes, _hasTokens_}
 -- ---- "Kinds 1 to 15 in the enum's order"
 
 -- each kind once
-all-kinds : "//c\n[]{}():,a 1\"b\"'c'\"\"\"d\"\"\"'''e'''" hasTokens 1 ∷ 0 ∷ 3 ∷ 2 ∷ 4 ∷ 5 ∷ 3 ∷ 5 ∷ 6 ∷ 4 ∷ 6 ∷ 7 ∷ 5 ∷ 7 ∷ 8 ∷ 6 ∷ 8 ∷ 9 ∷ 7 ∷ 9 ∷ 10 ∷ 8 ∷ 10 ∷ 11 ∷ 9 ∷ 11 ∷ 12 ∷ 10 ∷ 12 ∷ 13 ∷ 11 ∷ 14 ∷ 15 ∷ 12 ∷ 15 ∷ 18 ∷ 13 ∷ 18 ∷ 21 ∷ 14 ∷ 21 ∷ 28 ∷ 15 ∷ 28 ∷ 35 ∷ []
+all-kinds :
+    "//c\n[]{}():,a 1\"b\"'c'\"\"\"d\"\"\"'''e'''" hasTokens 1 ∷ 0 ∷ 3 ∷ 2 ∷ 4 ∷ 5 ∷ 3 ∷ 5 ∷ 6 ∷ 4 ∷ 6 ∷ 7 ∷ 5 ∷ 7 ∷ 8 ∷ 6 ∷ 8 ∷ 9 ∷ 7 ∷ 9 ∷ 10
+    ∷ 8 ∷ 10 ∷ 11 ∷ 9 ∷ 11 ∷ 12 ∷ 10 ∷ 12 ∷ 13 ∷ 11 ∷ 14 ∷ 15 ∷ 12 ∷ 15 ∷ 18 ∷ 13 ∷ 18 ∷ 21 ∷ 14 ∷ 21 ∷ 28 ∷ 15 ∷ 28 ∷ 35 ∷ []
 unfolding tokensOf bytes
 all-kinds = refl
 

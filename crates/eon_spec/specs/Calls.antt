@@ -203,12 +203,22 @@ abbrev pub unquotedOutcome : Unquoted → Outcome Part
 unquotedOutcome (unquoted.Part w start len) = done (partOf w start len)
 unquotedOutcome (unquoted.Refused r) = refusedWith r
 
--- showing: the part named, or the empty beginning of the quoted slice if it reaches beyond the slice named
-abbrev pub pick : Which → List ℕ → List ℕ → List ℕ
+-- of the two slices the one that is named
+abbrev pub pick : {A : Type 0} → Which → A → A → A
 pick Quoted q s = q
 pick Scratch q s = s
 
+abbrev pub liesWithin : Part → List ℕ → List ℕ → Bool
+liesWithin p q s = leb (p .start + p .len) (length (pick (p .which) q s))
+
+-- showing: the bytes of the part named; "shows the empty beginning of the quoted slice if they reach beyond the slice named"
 unfoldable pub showCall : Part → List ℕ → List ℕ → List ℕ
-showCall p q s =
-    let b = pick (p .which) q s in
-    cond (leb (p .start + p .len) (length b)) (take (p .len) (drop (p .start) b)) []
+showCall p q s = cond (liesWithin p q s) (take (p .len) (drop (p .start) (pick (p .which) q s))) []
+
+-- where these bytes stand: in the slice named from the start named on, or at the quoted slice's beginning. A place is a block of memory
+-- and a byte in it; q′ and s′ are those of the slices
+abbrev pub moved : ℕ → ℕ × ℕ → ℕ × ℕ
+moved n a = (a .0, n + a .1)
+
+unfoldable pub shownPlace : Part → List ℕ → List ℕ → ℕ × ℕ → ℕ × ℕ → ℕ × ℕ
+shownPlace p q s q′ s′ = cond (liesWithin p q s) (moved (p .start) (pick (p .which) q′ s′)) q′

@@ -12,7 +12,7 @@ use lib.ListN.{length, getD, drop, take, drop-of-length-le}
 use lib.Seq.{drop-cons, take-nil, take-all}
 use Rattle.eon_spec.specs.Base.{elem, eqList}
 use Rattle.eon_spec.specs.Unquote.{isLetter, isLetterOrDigit, allLettersOrDigits, startsWith, isName}
-use Rattle.eon_spec.specs.Calls.{partOf, showCall}
+use Rattle.eon_spec.specs.Calls.{partOf, pick, moved, showCall, shownPlace}
 use Rattle.eon_spec.specs.declared.Which.{Which}
 use Rattle.eon_spec.specs.declared.Which.the-variants.{Quoted, Scratch}
 
@@ -156,45 +156,34 @@ module _ (a b d : Bool) where
   pub size-one : a ≡ false → b ≡ false → d ≡ false → 1 ≡ size a b d
   size-one e f g = rw (e, f, g)
 
--- the part shown
-module _ (q s : List ℕ) (a n : ℕ) where
-  chosen : (b : List ℕ) → a + n ≤ length b → take (a + n - a) (drop a b) ≡ cond (leb (a + n) (length b)) (take n (drop a b)) []
-  chosen b h = let z : a + n - a ≡ n = omega arith in rw (le-leb (a + n) (length b) h, z)
+-- what is shown of the slice v that is named, and where it stands
+module _ (w v : Which) (e : w ≡ v) (q s : List ℕ) (a n : ℕ) where
+  module _ (h : a + n ≤ length (pick v q s)) where
+    pub show-part : take (a + n - a) (drop a (pick v q s)) ≡ showCall (partOf w a n) q s
+    unfolding showCall
+    show-part =
+        let z : a + n - a ≡ n = omega arith in
+        let d : take (a + n - a) (drop a (pick v q s)) ≡ showCall (partOf v a n) q s = rw (le-leb (a + n) (length (pick v q s)) h, z) in
+        d ∙ ap (λ (u : Which). showCall (partOf u a n) q s) (sym e)
 
-  beyond : (b : List ℕ) → length b < a + n → _≡_ {A = List ℕ} [] (cond (leb (a + n) (length b)) (take n (drop a b)) [])
-  beyond b h = rw (lt-leb (a + n) (length b) h)
+    pub part-place : (q′ s′ : ℕ × ℕ) → moved a (pick v q′ s′) ≡ shownPlace (partOf w a n) q s q′ s′
+    unfolding shownPlace
+    part-place q′ s′ =
+        let d : moved a (pick v q′ s′) ≡ shownPlace (partOf v a n) q s q′ s′ = rw (le-leb (a + n) (length (pick v q s)) h) in
+        d ∙ ap (λ (u : Which). shownPlace (partOf u a n) q s q′ s′) (sym e)
 
-  at-scratch : a + n ≤ length s → take (a + n - a) (drop a s) ≡ showCall (partOf Scratch a n) q s
-  unfolding showCall
-  at-scratch h = chosen s h
+  module _ (h : length (pick v q s) < a + n) where
+    pub show-none : [] ≡ showCall (partOf w a n) q s
+    unfolding showCall
+    show-none =
+        let d : [] ≡ showCall (partOf v a n) q s = rw (lt-leb (a + n) (length (pick v q s)) h) in
+        d ∙ ap (λ (u : Which). showCall (partOf u a n) q s) (sym e)
 
-  past-scratch : length s < a + n → [] ≡ showCall (partOf Scratch a n) q s
-  unfolding showCall
-  past-scratch h = beyond s h
-
-  at-quoted : a + n ≤ length q → take (a + n - a) (drop a q) ≡ showCall (partOf Quoted a n) q s
-  unfolding showCall
-  at-quoted h = chosen q h
-
-  past-quoted : length q < a + n → [] ≡ showCall (partOf Quoted a n) q s
-  unfolding showCall
-  past-quoted h = beyond q h
-
-module _ (w : Which) (q s : List ℕ) (a n : ℕ) where
-  same : (v : Which) → w ≡ v → showCall (partOf v a n) q s ≡ showCall (partOf w a n) q s
-  same v e = ap (λ (u : Which). showCall (partOf u a n) q s) (sym e)
-
-  pub show-scratch : w ≡ Scratch → a + n ≤ length s → take (a + n - a) (drop a s) ≡ showCall (partOf w a n) q s
-  show-scratch e h = at-scratch q s a n h ∙ same Scratch e
-
-  pub show-no-scratch : w ≡ Scratch → length s < a + n → [] ≡ showCall (partOf w a n) q s
-  show-no-scratch e h = past-scratch q s a n h ∙ same Scratch e
-
-  pub show-quoted : w ≡ Quoted → a + n ≤ length q → take (a + n - a) (drop a q) ≡ showCall (partOf w a n) q s
-  show-quoted e h = at-quoted q s a n h ∙ same Quoted e
-
-  pub show-no-quoted : w ≡ Quoted → length q < a + n → [] ≡ showCall (partOf w a n) q s
-  show-no-quoted e h = past-quoted q s a n h ∙ same Quoted e
+    pub none-place : (q′ s′ : ℕ × ℕ) → q′ ≡ shownPlace (partOf w a n) q s q′ s′
+    unfolding shownPlace
+    none-place q′ s′ =
+        let d : q′ ≡ shownPlace (partOf v a n) q s q′ s′ = rw (lt-leb (a + n) (length (pick v q s)) h) in
+        d ∙ ap (λ (u : Which). shownPlace (partOf u a n) q s q′ s′) (sym e)
 
 pub within-is : (a n t : ℕ) → a ≤ t → leb n (t - a) ≡ leb (a + n) t
 within-is a n t h = go (decLe n (t - a))

@@ -11,7 +11,7 @@ ghost use Prim.Native.Nat.{ℕ, _+_, _-_, _/_, _%_, _≤_, _<_};
 ghost use Rattle.eon_spec.specs.Base.{elem};
 ghost use Rattle.eon_spec.specs.Utf8.{encodeChar};
 ghost use Rattle.eon_spec.specs.Unquote.{isLetter, isLetterOrDigit, allLettersOrDigits, isValidIdentifier, startsWith, lookup, escapes, hexDigit, whiteSpace, value, oneLineOnly, dropLineFeed, unquoteChars};
-ghost use Rattle.eon_spec.specs.Calls.{after, isPart, opening, partOf, unquotedOutcome, unquoteCall, showCall};
+ghost use Rattle.eon_spec.specs.Calls.{after, isPart, opening, partOf, unquotedOutcome, unquoteCall, showCall, shownPlace};
 ghost use Rattle.eon_strings.specs.Views.{kept, between, Formed, Inside, NextIs, StartIs, ClosingIs, asOption, FoundIs, readsBy, marked, onward, GoodMode, GoodStep, endOf, Reads, RunIs, CopiedIs, ModeIs, ContentsIs, placedCall, scratchCall};
 
 // One-character escapes: the characters behind the backslash, and what they give.
@@ -204,7 +204,8 @@ pub fn show<'a>(
     start: usize,
     len: usize,
 ) -> &'a [u8]
-    ensures { λ r. ⌜ now r ≡ showCall (partOf which start len) (now (quoted .entry)) (now (scratch .entry)) ⌝ }
+    ensures shown { λ r. ⌜ now r ≡ showCall (partOf which start len) (now (quoted .entry)) (now (scratch .entry)) ⌝ }
+    ensures stands { λ r. ⌜ r .ptr ≡ shownPlace (partOf which start len) (now (quoted .entry)) (now (scratch .entry)) (quoted .entry .ptr) (scratch .entry .ptr) ⌝ }
 {
     if let Which::Scratch = which {
         if lies_within(scratch.len(), start, len) {

@@ -5,7 +5,7 @@ ghost use Prim.Native.Nat.{ℕ, _≤_};
 ghost use lib.ListN.{length, take};
 ghost use Rattle.eon_spec.specs.Tree.{TokenTree};
 ghost use Rattle.eon_spec.specs.Unquote.{isValidIdentifier};
-ghost use Rattle.eon_spec.specs.Calls.{after, outcomeOf, readCall, formatCall, comparedOutcome, compareCall, unquotedOutcome, unquoteCall, partOf, showCall};
+ghost use Rattle.eon_spec.specs.Calls.{after, outcomeOf, readCall, formatCall, comparedOutcome, compareCall, unquotedOutcome, unquoteCall, partOf, showCall, shownPlace};
 ghost use Rattle.eon_spec.specs.Runs.{Premises, Suffices, wrote, IsRun, IsRow, ShareText};
 
 mod reformatting;
@@ -62,7 +62,7 @@ pub fn unescape_and_unquote(quoted: &[u8], scratch: &mut [u8]) -> Unquoted
     eon_strings::unescape_and_unquote(quoted, scratch)
 }
 
-// The part that unquoting named, or the empty beginning of the quoted slice if it reaches beyond the slice named.
+// The part that unquoting named, where it stands; the empty beginning of the quoted slice if it reaches beyond the slice named.
 pub fn show<'a>(
     quoted: &'a [u8],
     scratch: &'a [u8],
@@ -70,7 +70,8 @@ pub fn show<'a>(
     start: usize,
     len: usize,
 ) -> &'a [u8]
-    ensures { λ r. ⌜ now r ≡ showCall (partOf which start len) (now (quoted .entry)) (now (scratch .entry)) ⌝ }
+    ensures shown { λ r. ⌜ now r ≡ showCall (partOf which start len) (now (quoted .entry)) (now (scratch .entry)) ⌝ }
+    ensures stands { λ r. ⌜ r .ptr ≡ shownPlace (partOf which start len) (now (quoted .entry)) (now (scratch .entry)) (quoted .entry .ptr) (scratch .entry .ptr) ⌝ }
 {
     eon_strings::show(quoted, scratch, which, start, len)
 }

@@ -17,7 +17,7 @@ shown-words-requires c κs = search needs
 returns : tie.Need-returns
 returns c =
     let args = c .before .before .before .before .before .args in
-    shown-of _ (now (c .before .show .result)) (now (args .quoted)) (now (args .scratch)) (whichOf (args .slice)) (c .before .before .which-of .result) (args .start) (args .len) (c .before .before .which-of .ensures) (c .before .show .ensures) (c .shown-words .ensures)
+    shown-of _ (now (c .before .show .result)) (now (args .quoted)) (now (args .scratch)) (whichOf (args .slice)) (c .before .before .which-of .result) (args .start) (args .len) (c .before .before .which-of .ensures) (c .before .show .ensures .0) (c .shown-words .ensures)
 
 pub eon-show-spec : {M : Type 1} → statement M
 eon-show-spec = tie.close (tie.spec which-of-requires show-requires shown-words-requires returns)

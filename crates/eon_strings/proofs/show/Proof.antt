@@ -6,7 +6,8 @@ use mathlib.Core.Path.{sym, _∙_}
 use Prim.Native.Nat.{_+_, _-_}
 use lib.ListN.{length}
 use borrow.Author.Tests.{leb-true, leb-false}
-use Rattle.eon_strings.proofs.Bytes.{show-scratch, show-no-scratch, show-quoted, show-no-quoted}
+use Rattle.eon_spec.specs.declared.Which.the-variants.{Quoted, Scratch}
+use Rattle.eon_strings.proofs.Bytes.{show-part, part-place, show-none, none-place}
 use Rattle.eon_strings.proofs.show.Statement.{statement}
 use Rattle.eon_strings.proofs.show.Tie as tie
 
@@ -35,7 +36,11 @@ part-result-end c =
 returns : tie.Need-returns
 returns c =
     let args = c .before .before .before .before .before .before .before .args in
-    show-scratch (args .which) (args .quoted .now) (args .scratch .now) (args .start) (args .len) (c .before .before .before .enum-told .given .1) (leb-true (args .start + args .len) (length (args .scratch .now)) (sym (c .before .before .lies-within .ensures) ∙ c .before .if1 .taken))
+    let named = c .before .before .before .enum-told .given .1 in
+    let fits = leb-true (args .start + args .len) (length (args .scratch .now)) (sym (c .before .before .lies-within .ensures) ∙ c .before .if1 .taken) in
+    let q = args .quoted in
+    let s = args .scratch in
+    (show-part (args .which) Scratch named (q .now) (s .now) (args .start) (args .len) fits, part-place (args .which) Scratch named (q .now) (s .now) (args .start) (args .len) fits (q .ptr) (s .ptr))
 
 slice-aggregate-result : tie.Need-slice-aggregate-result
 slice-aggregate-result c = search needs
@@ -43,7 +48,11 @@ slice-aggregate-result c = search needs
 returns-2 : tie.Need-returns-2
 returns-2 c =
     let args = c .before .before .before .before .before .before .before .args in
-    show-no-scratch (args .which) (args .quoted .now) (args .scratch .now) (args .start) (args .len) (c .before .before .before .enum-told .given .1) (leb-false (args .start + args .len) (length (args .scratch .now)) (sym (c .before .before .lies-within .ensures) ∙ c .before .if1 .left))
+    let named = c .before .before .before .enum-told .given .1 in
+    let beyond = leb-false (args .start + args .len) (length (args .scratch .now)) (sym (c .before .before .lies-within .ensures) ∙ c .before .if1 .left) in
+    let q = args .quoted in
+    let s = args .scratch in
+    (show-none (args .which) Scratch named (q .now) (s .now) (args .start) (args .len) beyond, none-place (args .which) Scratch named (q .now) (s .now) (args .start) (args .len) beyond (q .ptr) (s .ptr))
 
 enum-told-2 : tie.Need-enum-told-2
 enum-told-2 c = search needs
@@ -70,7 +79,11 @@ part-result-end-2 c =
 returns-3 : tie.Need-returns-3
 returns-3 c =
     let args = c .before .before .before .before .before .before .before .args in
-    show-quoted (args .which) (args .quoted .now) (args .scratch .now) (args .start) (args .len) (c .before .before .before .enum-told2 .given .1) (leb-true (args .start + args .len) (length (args .quoted .now)) (sym (c .before .before .lies-within2 .ensures) ∙ c .before .if2 .taken))
+    let named = c .before .before .before .enum-told2 .given .1 in
+    let fits = leb-true (args .start + args .len) (length (args .quoted .now)) (sym (c .before .before .lies-within2 .ensures) ∙ c .before .if2 .taken) in
+    let q = args .quoted in
+    let s = args .scratch in
+    (show-part (args .which) Quoted named (q .now) (s .now) (args .start) (args .len) fits, part-place (args .which) Quoted named (q .now) (s .now) (args .start) (args .len) fits (q .ptr) (s .ptr))
 
 slice-aggregate-result-2 : tie.Need-slice-aggregate-result-2
 slice-aggregate-result-2 c = search needs
@@ -78,7 +91,11 @@ slice-aggregate-result-2 c = search needs
 returns-4 : tie.Need-returns-4
 returns-4 c =
     let args = c .before .before .before .before .before .before .before .args in
-    show-no-quoted (args .which) (args .quoted .now) (args .scratch .now) (args .start) (args .len) (c .before .before .before .enum-told2 .given .1) (leb-false (args .start + args .len) (length (args .quoted .now)) (sym (c .before .before .lies-within2 .ensures) ∙ c .before .if2 .left))
+    let named = c .before .before .before .enum-told2 .given .1 in
+    let beyond = leb-false (args .start + args .len) (length (args .quoted .now)) (sym (c .before .before .lies-within2 .ensures) ∙ c .before .if2 .left) in
+    let q = args .quoted in
+    let s = args .scratch in
+    (show-none (args .which) Quoted named (q .now) (s .now) (args .start) (args .len) beyond, none-place (args .which) Quoted named (q .now) (s .now) (args .start) (args .len) beyond (q .ptr) (s .ptr))
 
 pub show-spec : {M : Type 1} → statement M
 show-spec =
