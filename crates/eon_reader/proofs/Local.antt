@@ -2,7 +2,6 @@
 --     Made, goes-new, new-said     the call of `new`: what is known of its result, what it asks, and what it says
 --     lends        the local's cell and what the struct owns give what `next` asks. The signature asks that the loan's lifetime lies within the text's, so it is `ν ∷ κ` for a new ν. Half of the text's lifetime token goes into the loan's, and the other half to `next`
 --     comes-back   behind the call: the loan's lifetime is ended, and the cell is had again at the reader's last value, beside the token that `next` returns and what it ensures of them. `Went` is that, as a fact: whoever calls `next` hears it
--- Assumes `Given`.
 use mathlib.Core.Path.{_≡_, ap, _∙_}
 use Prim.Native.Nat.{ℕ}
 use mathlib.Core.List.{List, [], _∷_}
