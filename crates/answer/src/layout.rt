@@ -54,6 +54,14 @@ fn options(line: &[u8]) -> FormatOptions {
     }
 }
 
+// The bytes that were written, or the refusal.
+pub fn put_written(written: Answer, room: &[u8], out: &mut [u8], at: usize) -> usize {
+    match written {
+        Answer::Done(len) => print::put_bytes(out, at, input::part(room, 0, len)),
+        Answer::Refused(refusal) => print::put_refusal(out, at, refusal),
+    }
+}
+
 // The text is read, and then laid out. What reading refuses is not said here: layout refuses it as well, in its own order.
 fn put_layout(
     text: &[u8],
@@ -65,10 +73,7 @@ fn put_layout(
 ) -> usize {
     eon_syntax::read(text, table);
     let r = eon_syntax::format(text, table, options, room);
-    match r {
-        Answer::Done(len) => print::put_bytes(out, at, input::part(room, 0, len)),
-        Answer::Refused(refusal) => print::put_refusal(out, at, refusal),
-    }
+    put_written(r, room, out, at)
 }
 
 pub fn format(

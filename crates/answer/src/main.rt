@@ -2,7 +2,9 @@
 mod hex;
 mod input;
 mod layout;
+mod lent;
 mod line;
+mod number;
 mod print;
 mod tree;
 mod verbs;
@@ -33,6 +35,35 @@ fn one_text(
     print::bad_line(out, at)
 }
 
+// The verbs that say how much is lent.
+fn lent_memory(
+    line: &[u8],
+    text: &mut [u8],
+    room: &mut [u8],
+    table: &mut [u32],
+    out: &mut [u8],
+    at: usize,
+) -> usize {
+    let n = line::words(line);
+    if n == 3 {
+        if line::asks(line, b"read") {
+            return lent::read(line, text, table, out, at);
+        }
+        if line::asks(line, b"unquote") {
+            return lent::unquote(line, text, room, out, at);
+        }
+    }
+    if n == 4 {
+        if line::asks(line, b"layout") {
+            return lent::layout(line, text, table, room, out, at);
+        }
+        if line::asks(line, b"reformat") {
+            return lent::reformat(line, text, table, room, out, at);
+        }
+    }
+    print::bad_line(out, at)
+}
+
 // A line is answered by its verb, which takes so many words.
 fn answer(
     line: &[u8],
@@ -57,7 +88,7 @@ fn answer(
             return layout::format(line, text, table, room, out, at);
         }
     }
-    print::bad_line(out, at)
+    lent_memory(line, text, room, table, out, at)
 }
 
 // The line that ends at a line feed is answered; without one, more is read.

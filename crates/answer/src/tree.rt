@@ -16,7 +16,7 @@ fn records(table: &[u32], count: usize) -> &[u32] {
     table
 }
 
-fn put_records(text: &[u8], table: &mut [u32], out: &mut [u8], at: usize) -> usize {
+pub fn put_records(text: &[u8], table: &mut [u32], out: &mut [u8], at: usize) -> usize {
     let r = eon_syntax::read(text, table);
     match r {
         Answer::Done(count) => print::put_table(out, at, records(table, count)),

@@ -21,7 +21,7 @@ pub fn identifier(line: &[u8], text: &mut [u8], out: &mut [u8], at: usize) -> us
 }
 
 // The value of a quoted text, shown from where it lies.
-fn put_value(quoted: &[u8], scratch: &mut [u8], out: &mut [u8], at: usize) -> usize {
+pub fn put_value(quoted: &[u8], scratch: &mut [u8], out: &mut [u8], at: usize) -> usize {
     let r = eon_syntax::unescape_and_unquote(quoted, scratch);
     match r {
         Unquoted::Part(which, start, len) => {

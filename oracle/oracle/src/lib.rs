@@ -6,6 +6,7 @@ mod calls;
 mod error_map;
 pub mod generate;
 mod hex;
+mod lent;
 mod protocol;
 mod records;
 mod refusal;
@@ -18,7 +19,8 @@ mod token_kind;
 
 pub use crate::{
     calls::{Options, compare, format, identifier, read, tokens, unquote},
-    protocol::{Answer, Case},
+    lent::Lent,
+    protocol::{Answer, Case, answer},
     refusal::Refusal,
     rows::rows,
     token_kind::TokenKind,

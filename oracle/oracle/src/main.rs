@@ -1,6 +1,5 @@
 //! `oracle answer`, `oracle generate` and `oracle rows`: see README.md.
 
-use oracle::Case;
 use oracle::generate::{Kind, generate};
 use std::io::{self, BufRead, BufReader, BufWriter, Read, Write};
 use std::panic;
@@ -96,7 +95,7 @@ fn answer_lines(input: impl Read, out: impl Write) -> io::Result<()> {
 
 fn answer_line(line: &[u8], out: &mut Vec<u8>) {
     // A panic, such as an unmapped error, is one bad answer and not the end of the others.
-    let result = panic::catch_unwind(|| Case::parse(line).map(|case| case.answer()));
+    let result = panic::catch_unwind(|| oracle::answer(line));
     match result {
         Ok(Ok(answer)) => answer.write(out),
         Ok(Err(message)) => out.extend(format!("error: {message}").bytes()),

@@ -2,6 +2,7 @@
 
 use crate::calls::{self, Options};
 use crate::hex::{read_hex, write_hex};
+use crate::lent::Lent;
 use crate::refusal::Refusal;
 
 /// One question.
@@ -91,8 +92,17 @@ impl Case {
     }
 }
 
+/// What the original answers to a line, given without its line feed. The error says what is wrong
+/// with it.
+pub fn answer(line: &[u8]) -> Result<Answer, String> {
+    match Lent::parse(line)? {
+        Some(case) => Ok(case.answer()),
+        None => Ok(Case::parse(line)?.answer()),
+    }
+}
+
 impl Answer {
-    fn new<T>(result: Result<T, Refusal>, accepted: impl Fn(T) -> Self) -> Self {
+    pub(crate) fn new<T>(result: Result<T, Refusal>, accepted: impl Fn(T) -> Self) -> Self {
         match result {
             Ok(value) => accepted(value),
             Err(refusal) => Self::Refused(refusal),

@@ -54,8 +54,27 @@ refused 2 0 0 0 0
 }
 
 #[test]
+fn lent_memory() {
+    let input = b"read 312032 15\nread 312032 14\nread 5d 0\nunquote 225c6e22 1\nunquote 225c6e22 0\nunquote 226122 0\n\
+        layout - 0500000000000000000000000000000001000000 0\nlayout - - 0\nreformat 312032 15 6\nreformat 312032 15 5\n";
+    let expected = "\
+ok 4 0 3 3 3 2 0 1 1 1 2 2 3 3 1
+refused 14 0 0 0 0
+refused 13 0 1 0 0
+bytes 0a
+refused 14 0 0 0 0
+bytes 61
+bytes -
+refused 15 0 0 0 0
+bytes 5b312c20325d
+refused 14 0 0 0 0
+";
+    assert_eq!(answers(input), expected);
+}
+
+#[test]
 fn a_bad_line_is_one_bad_answer() {
-    let input: &[u8] = b"\nread\nread \nread 6\nread 6G\nread 6A\nread 61 61\nREAD 61\n read 61\nread  61\n\
+    let input: &[u8] = b"\nread\nread \nread 6\nread 6G\nread 6A\nread 61 61 61\nREAD 61\n read 61\nread  61\n\
         read 61\r\nformat 61\nformat 61 - - - - 2\nformat 61 - - - -\ncompare 61\nidentifier\n\xFF\xFE\n\0\nread 61\n";
     let answers = answers(input);
     let lines: Vec<&str> = answers.lines().collect();
