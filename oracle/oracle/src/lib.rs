@@ -2,6 +2,7 @@
 //!
 //! Texts are bytes. Each answer is a value or a [`Refusal`].
 
+mod agree;
 mod calls;
 mod error_map;
 pub mod generate;
@@ -18,6 +19,7 @@ mod rows;
 mod token_kind;
 
 pub use crate::{
+    agree::{Agreement, Difference, agree},
     calls::{Options, compare, format, identifier, read, tokens, unquote},
     lent::Lent,
     protocol::{Answer, Case, answer},

@@ -1,13 +1,15 @@
-//! `oracle answer`, `oracle generate` and `oracle rows`: see README.md.
+//! `oracle answer`, `oracle generate`, `oracle rows` and `oracle agree`: see README.md.
 
 use oracle::generate::{Kind, generate};
+use std::fs;
 use std::io::{self, BufRead, BufReader, BufWriter, Read, Write};
 use std::panic;
 use std::process::ExitCode;
 
 const USAGE: &str = "usage: oracle answer < CASES
        oracle generate KIND COUNT SEED
-       oracle rows COUNT SEED";
+       oracle rows COUNT SEED
+       oracle agree FILE..";
 
 const BUFFER: usize = 1 << 16;
 
@@ -26,6 +28,11 @@ fn main() -> ExitCode {
         ["rows", count, seed] => match generate_arguments("all", count, seed) {
             Ok((_, count, seed)) => io::stdout().write_all(oracle::rows(count, seed).as_bytes()),
             Err(message) => return usage(&message),
+        },
+        ["agree", ref files @ ..] if !files.is_empty() => match agree_files(files) {
+            Ok(true) => Ok(()),
+            Ok(false) => return ExitCode::FAILURE,
+            Err(error) => Err(error),
         },
         _ => return usage("unknown arguments"),
     };
@@ -67,6 +74,19 @@ fn print_cases(kind: Kind, count: usize, seed: u64, out: impl Write) -> io::Resu
         out.write_all(&line)?;
     }
     out.flush()
+}
+
+/// Prints how the rows of each file stand to the original: whether none differs.
+fn agree_files(files: &[&str]) -> io::Result<bool> {
+    let mut agree = true;
+    for name in files {
+        let file = fs::read_to_string(name)
+            .map_err(|error| io::Error::new(error.kind(), format!("{name}: {error}")))?;
+        let agreement = oracle::agree(&file);
+        agree &= agreement.differing.is_empty();
+        writeln!(io::stdout(), "{name}: {agreement}")?;
+    }
+    Ok(agree)
 }
 
 fn answer_lines(input: impl Read, out: impl Write) -> io::Result<()> {

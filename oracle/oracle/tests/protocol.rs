@@ -96,6 +96,38 @@ fn generate_prints_cases_that_are_answered() {
 }
 
 #[test]
+fn agree_fails_where_a_row_differs() {
+    let file = |name: &str, statement: &str| {
+        let path = format!("{}/{name}", env!("CARGO_TARGET_TMPDIR"));
+        let row = format!("row : {statement}\nunfolding writes bytes\nrow = refl\n");
+        std::fs::write(&path, row).expect("the file is written");
+        path
+    };
+    let good = file("good.antt", "\"1 2\" isWritten \"[1, 2]\"");
+    let bad = file("bad.antt", "\"1\" isWritten \"2\"");
+    let unread = file("unread.antt", "\"1\" isLike \"2\"");
+    let said = |output: &Output| String::from_utf8_lossy(&output.stdout).into_owned();
+
+    let output = run(&["agree", &good, &unread], b"");
+    assert!(output.status.success());
+    assert_eq!(
+        said(&output),
+        format!(
+            "{good}: 1 rows agree, 0 differ, 0 are not read\n{unread}: 0 rows agree, 0 differ, 1 are not read\n  not read: row\n"
+        )
+    );
+
+    let output = run(&["agree", &bad, &good], b"");
+    assert_eq!(output.status.code(), Some(1));
+    assert_eq!(
+        said(&output),
+        format!(
+            "{bad}: 0 rows agree, 1 differ, 0 are not read\n  row\n    the row:      [0, 50]\n    the original: [0, 49]\n{good}: 1 rows agree, 0 differ, 0 are not read\n"
+        )
+    );
+}
+
+#[test]
 fn bad_arguments_are_told() {
     for arguments in [
         &[][..],
@@ -104,6 +136,8 @@ fn bad_arguments_are_told() {
         &["generate", "all", "x", "1"],
         &["generate", "all", "1", "-1"],
         &["answer", "more"],
+        &["agree"],
+        &["agree", "no-such-file"],
     ] {
         let output = run(arguments, b"");
         assert!(!output.status.success(), "{arguments:?}");

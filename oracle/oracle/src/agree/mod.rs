@@ -1,0 +1,232 @@
+//! Rows of a proof file held against the original: what they say is its answer, and not ours.
+
+mod parse;
+
+use crate::protocol::{Answer, Case};
+use crate::refusal::Refusal;
+use parse::Fact;
+use std::fmt;
+
+/// How the rows of a file stand to the original.
+#[derive(Debug, Default, PartialEq, Eq)]
+pub struct Agreement {
+    pub agreeing: usize,
+    pub differing: Vec<Difference>,
+    /// The names of the rows that are not read.
+    pub unread: Vec<String>,
+}
+
+/// A row that says otherwise than the original: both answers in numbers.
+#[derive(Debug, PartialEq, Eq)]
+pub struct Difference {
+    pub row: String,
+    pub said: Vec<u32>,
+    pub original: Vec<u32>,
+}
+
+/// Asks the original what each row of a file says.
+pub fn agree(file: &str) -> Agreement {
+    let mut agreement = Agreement::default();
+    for (name, statement) in rows(file) {
+        match parse::facts(&statement) {
+            Some(facts) => agreement.hold(name, facts),
+            None => agreement.unread.push(name.to_owned()),
+        }
+    }
+    agreement
+}
+
+impl Agreement {
+    fn hold(&mut self, name: &str, facts: Vec<Fact>) {
+        let several = facts.len() > 1;
+        for (at, fact) in facts.into_iter().enumerate() {
+            let mut original = numbers(&fact.case);
+            original.truncate(fact.shown);
+            if original == fact.numbers {
+                self.agreeing += 1;
+            } else {
+                let row = if several {
+                    format!("{name} {}", at + 1)
+                } else {
+                    name.to_owned()
+                };
+                self.differing.push(Difference {
+                    row,
+                    said: fact.numbers,
+                    original,
+                });
+            }
+        }
+    }
+}
+
+impl fmt::Display for Agreement {
+    fn fmt(&self, f: &mut fmt::Formatter<'_>) -> fmt::Result {
+        let (differing, unread) = (self.differing.len(), self.unread.len());
+        write!(
+            f,
+            "{} rows agree, {differing} differ, {unread} are not read",
+            self.agreeing
+        )?;
+        for Difference {
+            row,
+            said,
+            original,
+        } in &self.differing
+        {
+            write!(
+                f,
+                "\n  {row}\n    the row:      {said:?}\n    the original: {original:?}"
+            )?;
+        }
+        if unread > 0 {
+            write!(f, "\n  not read: {}", self.unread.join(" "))?;
+        }
+        Ok(())
+    }
+}
+
+/// The name and the statement of each row: from the line `NAME : STATEMENT` to the line that begins
+/// the proof, with `unfolding` or with `NAME = refl`.
+fn rows(file: &str) -> Vec<(&str, String)> {
+    let mut rows = Vec::new();
+    let mut open: Option<(&str, String)> = None;
+    for line in file.lines() {
+        if let Some(row) = start(line) {
+            open = Some(row);
+        } else if let Some((name, mut statement)) = open.take() {
+            if line.starts_with(' ') {
+                statement += "\n";
+                statement += line;
+                open = Some((name, statement));
+            } else if line.starts_with("unfolding ") || line == format!("{name} = refl") {
+                rows.push((name, statement));
+            }
+        }
+    }
+    rows
+}
+
+fn start(line: &str) -> Option<(&str, String)> {
+    let (name, statement) = line.split_once(" :")?;
+    let is_name = !name.contains(char::is_whitespace) && !name.starts_with("--");
+    let is_statement = statement.is_empty() || statement.starts_with(' ');
+    (is_name && is_statement).then(|| (name, statement.to_owned()))
+}
+
+/// 0 and the answer, or the five numbers of a refusal.
+fn numbers(case: &Case) -> Vec<u32> {
+    let answer = match case.answer() {
+        Answer::Words(words) => words,
+        Answer::Bytes(bytes) => bytes.into_iter().map(u32::from).collect(),
+        Answer::Truth(truth) => vec![u32::from(truth)],
+        Answer::Refused(refusal) => {
+            let Refusal {
+                number,
+                start,
+                end,
+                expected,
+                found,
+            } = refusal;
+            return vec![number, start, end, expected, found];
+        }
+    };
+    [vec![0], answer].concat()
+}
+
+#[cfg(test)]
+mod tests {
+    use super::*;
+
+    const FILE: &str = "\
+-- A head : \"1\" equals \"2\"
+use mathlib.Core.List.{[], _∷_}
+
+-- a row
+two-values : \"1 2\" isWritten \"[1, 2]\"
+unfolding writes bytes
+two-values = refl
+
+table :
+    (\"\" hasRecords 5 ∷ 0 ∷ 0 ∷ 0 ∷ 1 ∷ [])  -- P1
+    × (\"]\" isRefused 6 ∷ 0 ∷ 1 ∷ 0 ∷ 0 ∷ [])  -- P2
+    × (\"'''\" isNoString 18)
+unfolding reads shows bytes
+table = (refl, refl, refl)
+
+abbrev one : List ℕ
+one = 1 ∷ []
+
+two : List ℕ
+two = 2 ∷ []
+
+unfoldable pub three : List ℕ
+unfolding reads
+three = 3 ∷ []
+
+named : reads (bytes \"a\") ≡ one
+unfolding reads bytes
+named = refl
+
+bare : one ≡ two
+bare = refl
+
+same : \"[1]\" equals \"[2]\"
+unfolding compares bytes
+same = refl
+";
+
+    #[test]
+    fn rows_of_a_file() {
+        let names: Vec<&str> = rows(FILE).iter().map(|(name, _)| *name).collect();
+        assert_eq!(names, ["two-values", "table", "named", "bare", "same"]);
+    }
+
+    #[test]
+    fn rows_against_the_original() {
+        let agreement = agree(FILE);
+        assert_eq!(agreement.agreeing, 3);
+        assert_eq!(agreement.unread, ["named", "bare"]);
+        let difference = |row: &str, said: &[u32], original: &[u32]| Difference {
+            row: row.to_owned(),
+            said: said.to_vec(),
+            original: original.to_vec(),
+        };
+        assert_eq!(
+            agreement.differing,
+            [
+                difference("table 2", &[6, 0, 1, 0, 0], &[13, 0, 1, 0, 0]),
+                difference("same", &[0, 1], &[0, 0]),
+            ]
+        );
+    }
+
+    #[test]
+    fn as_lines() {
+        let text = agree(FILE).to_string();
+        assert!(text.starts_with("3 rows agree, 2 differ, 2 are not read\n  table 2\n"));
+        assert!(text.ends_with("\n  not read: named bare"));
+        assert_eq!(
+            agree("").to_string(),
+            "0 rows agree, 0 differ, 0 are not read"
+        );
+    }
+
+    #[test]
+    fn only_what_is_shown_is_compared() {
+        let row = |count: u32| {
+            format!(
+                "r : take {count} (reads (bytes \"1\")) ≡ 0 ∷ 2 ∷ []\nunfolding reads\nr = refl\n"
+            )
+        };
+        assert_eq!(agree(&row(2)).agreeing, 1);
+        assert_eq!(agree(&row(3)).differing.len(), 1);
+    }
+
+    /// What `oracle rows` prints is read whole, and agrees.
+    #[test]
+    fn printed_rows_agree() {
+        let agreement = agree(&crate::rows(300, 5));
+        assert_eq!((agreement.agreeing, agreement.unread), (300, vec![]));
+    }
+}
