@@ -8,9 +8,12 @@ use lib.ListN.{replicate, take}
 use Rattle.eon_spec.specs.declared.FormatOptions.{FormatOptions}
 use Rattle.eon_spec.specs.declared.Setting.{Setting}
 use Rattle.eon_spec.specs.declared.Which.the-variants.{Quoted, Scratch}
+use Rattle.eon_spec.specs.declared.Answer.the-variants as answer
+use Rattle.eon_spec.specs.declared.Compared.the-variants as compared
+use Rattle.eon_spec.specs.declared.Unquoted.the-variants as unquoted
 use Rattle.eon_spec.specs.Parse.{refusal}
 use Rattle.eon_spec.specs.Layout.{setting, settingsOf, defaults, defaultOptions}
-use Rattle.eon_spec.specs.Calls.{done, refusedWith, nowhere, place, After, after, afterBoth, Part, partOf, readCall, formatCall, reformatCall, fillBoth, compareCall, checkedSettings, unquoteCall, showCall, shownPlace}
+use Rattle.eon_spec.specs.Calls.{done, refusedWith, nowhere, place, After, after, afterBoth, Part, partOf, readCall, formatCall, reformatCall, fillBoth, compareCall, checkedSettings, unquoteCall, showCall, shownPlace, outcomeOf, comparedOutcome, unquotedOutcome}
 use Rattle.eon_rows.proofs.Computing.{reads, writes, bytes, compares, shows}
 
 -- the words of `1 2` and of `1`
@@ -314,3 +317,27 @@ standing = refl
 standing-beyond : map (λ (p : Part). shownPlace p (bytes "'ab'") (7 ∷ 8 ∷ 9 ∷ []) (1, 100) (2, 200)) (partOf Quoted 1 4 ∷ partOf Scratch 1 3 ∷ []) ≡ (1, 100) ∷ (1, 100) ∷ []
 unfolding shownPlace bytes
 standing-beyond = refl
+
+-- ---- further edges
+
+-- reading and layout in one call are by the options too
+reformat-by-options : reformatCall (bytes "a:1") (replicate 15 9) marked (replicate 14 0) ≡ afterBoth (done 14) wordsA1 (bytes "{<n><i>a=1<n>}")
+unfolding compares writes reformatCall fillBoth checkedSettings bytes
+reformat-by-options = refl
+
+-- "Every refusal leaves lent memory unchanged": both memories
+reformat-refused : reformatCall (bytes "]") (9 ∷ []) defaultOptions (7 ∷ []) ≡ afterBoth (refusedWith (refusal 13 (record { start = 0; end = 1 }))) (9 ∷ []) (7 ∷ [])
+unfolding compares writes reformatCall fillBoth checkedSettings bytes
+reformat-refused = refl
+
+-- "Where an answer is an enum, a definition gives this paper's number and values for each of its cases": comparison's
+equal-or-not : map comparedOutcome (compared.Equal true ∷ compared.Equal false ∷ compared.Refused (nowhere 15) ∷ []) ≡ done true ∷ done false ∷ refusedWith (nowhere 15) ∷ []
+equal-or-not = refl
+
+-- "Filling answers which slice, start and length"
+which-start-length : map unquotedOutcome (unquoted.Part Quoted 1 2 ∷ unquoted.Refused (nowhere 14) ∷ []) ≡ done (partOf Quoted 1 2) ∷ refusedWith (nowhere 14) ∷ []
+which-start-length = refl
+
+-- "number, start and end in bytes" of reading's and layout's refusals, or how much was written
+written-or-refused : map outcomeOf (answer.Done 3 ∷ answer.Refused (nowhere 14) ∷ []) ≡ done 3 ∷ refusedWith (nowhere 14) ∷ []
+written-or-refused = refl

@@ -84,3 +84,13 @@ comment-texts = refl
 comment-kinds : "[1 //c\n]" differsFrom "[1\n//c\n]"
 unfolding compares bytes
 comment-kinds = refl
+
+-- "as many records": a suffix stands behind the root, where no size counts it
+suffix-behind-the-root : "1" differsFrom "1 //c"
+unfolding compares bytes
+suffix-behind-the-root = refl
+
+-- in either text
+suffix-behind-the-first-root : "1 //c" differsFrom "1"
+unfolding compares bytes
+suffix-behind-the-first-root = refl

@@ -343,3 +343,80 @@ long-variant-closing = refl
 indented-shared : "['A'([1])]" isWritten "[\n\t'A'([\n\t\t1\n\t])\n]"
 unfolding writes bytes
 indented-shared = refl
+
+-- ---- further edges
+
+-- "empty container": a map with a comment in it is not simple
+commented-map-is-not-simple : "[{//c\n}]" isWritten "[\n\t{\n\t\t//c\n\t}\n]"
+unfolding writes bytes
+commented-map-is-not-simple = refl
+
+-- nor a variant
+commented-variant-is-not-simple : "['A'(//c\n)]" isWritten "[\n\t'A'(\n\t\t//c\n\t)\n]"
+unfolding writes bytes
+commented-variant-is-not-simple = refl
+
+-- "anything else 7": an empty variant counts 7 and no less
+empty-variant-not-below-60 : writes (bytes "['A'() '" ++ replicate 49 97 ++ bytes "']") ≡ 0 ∷ (bytes "[\n\t'A'\n\t'" ++ replicate 49 97 ++ bytes "'\n]")
+unfolding writes bytes
+empty-variant-not-below-60 = refl
+
+-- and no more
+empty-variant-below-60 : writes (bytes "['A'() '" ++ replicate 48 97 ++ bytes "']") ≡ 0 ∷ (bytes "['A', '" ++ replicate 48 97 ++ bytes "']")
+unfolding writes bytes
+empty-variant-below-60 = refl
+
+-- "A blank line" is a line end by the settings, before an item and before closing comments
+blank-lines-by-settings : writesBy (settings (bytes "<i>") (bytes "<n>") (bytes "<s>") (bytes "<k>") false) (bytes "[1\n//p\n2\n//c\n]") ≡ 0 ∷ bytes "[<n><i>1<n><n><i>//p<n><i>2<n><n><i>//c<n>]"
+unfolding writesBy bytes
+blank-lines-by-settings = refl
+
+-- and so are those that a long variant writes
+long-variant-by-settings : writesBy (settings (bytes "<i>") (bytes "<n>") (bytes "<s>") (bytes "<k>") false) (bytes "'A'(1 2 3 4\n//p\n5\n//c\n)") ≡ 0 ∷ bytes "'A'(<n><n><n><n><n><n><n><n><i>//c<n>)"
+unfolding writesBy bytes
+long-variant-by-settings = refl
+
+-- with outer braces a root map keeps its own comments
+outer-braces-comments : writesBy (settings (bytes "\t") (bytes "\n") (bytes " ") (bytes ": ") true) (bytes "//p\n{a:1}//s") ≡ 0 ∷ bytes "//p\n{\n\ta: 1\n} //s"
+unfolding writesBy bytes
+outer-braces-comments = refl
+
+-- "Anything else has no line end after it": an identifier
+root-identifier : "a" isWritten "a"
+unfolding writes bytes
+root-identifier = refl
+
+-- a string
+root-string : "'a'" isWritten "'a'"
+unfolding writes bytes
+root-string = refl
+
+-- a variant, with its own comments
+root-variant : "//p\n'A'(1)//s" isWritten "//p\n'A'(1) //s"
+unfolding writes bytes
+root-variant = refl
+
+-- "before closing comments after items": in shared brackets without items there is no blank line, in a list
+shared-list-of-comments : "'A'([//c\n])" isWritten "'A'([\n\t//c\n])"
+unfolding writes bytes
+shared-list-of-comments = refl
+
+-- and in a map
+shared-map-of-comments : "'A'({//c\n})" isWritten "'A'({\n\t//c\n})"
+unfolding writes bytes
+shared-map-of-comments = refl
+
+-- "A map is always on lines": a value's stand one step further in than its pair
+map-in-map-in-map : "a:{b:{c:1}}" isWritten "a: {\n\tb: {\n\t\tc: 1\n\t}\n}\n"
+unfolding writes bytes
+map-in-map-in-map = refl
+
+-- and a key's
+key-on-lines : "a:{{c:1}:2}" isWritten "a: {\n\t{\n\t\tc: 1\n\t}: 2\n}\n"
+unfolding writes bytes
+key-on-lines = refl
+
+-- "Prefix and closing comments take an indented line each": above the key of an inner map, the key's and the value's
+comments-above-an-inner-key : "a:{//k\nb://v\n1}" isWritten "a: {\n\t//k\n\t//v\n\tb: 1\n}\n"
+unfolding writes bytes
+comments-above-an-inner-key = refl

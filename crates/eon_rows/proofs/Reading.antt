@@ -330,3 +330,55 @@ sizes = refl
 map-alternates : "a:[1]b:2" hasRecords 5 ∷ 0 ∷ 8 ∷ 8 ∷ 6 ∷ 1 ∷ 0 ∷ 1 ∷ 1 ∷ 1 ∷ 4 ∷ 2 ∷ 5 ∷ 5 ∷ 2 ∷ 2 ∷ 3 ∷ 4 ∷ 4 ∷ 1 ∷ 1 ∷ 5 ∷ 6 ∷ 6 ∷ 1 ∷ 2 ∷ 7 ∷ 8 ∷ 8 ∷ 1 ∷ []
 unfolding reads bytes
 map-alternates = refl
+
+-- ---- further edges
+
+-- "12 .. previous span": a suffix is the previous token
+suffix-cut-off : "[1 //c" isRefused 12 ∷ 3 ∷ 6 ∷ 3 ∷ 0 ∷ []
+unfolding reads bytes
+suffix-cut-off = refl
+
+-- and so is a comma
+comma-cut-off : "[1," isRefused 12 ∷ 2 ∷ 3 ∷ 3 ∷ 0 ∷ []
+unfolding reads bytes
+comma-cut-off = refl
+
+-- "`"name"(`": strings of each kind are names, three double quotes
+name-in-three-quotes : "\"\"\"A\"\"\"(1)" hasRecords 6 ∷ 0 ∷ 7 ∷ 10 ∷ 2 ∷ 2 ∷ 8 ∷ 9 ∷ 9 ∷ 1 ∷ []
+unfolding reads bytes
+name-in-three-quotes = refl
+
+-- and three single ones
+name-in-three-single-quotes : "'''A'''(1)" hasRecords 6 ∷ 0 ∷ 7 ∷ 10 ∷ 2 ∷ 2 ∷ 8 ∷ 9 ∷ 9 ∷ 1 ∷ []
+unfolding reads bytes
+name-in-three-single-quotes = refl
+
+-- "One comma may follow a value": of a pair too
+one-comma-behind-a-pair : "a:1,,b:2" isRefused 10 ∷ 4 ∷ 5 ∷ 0 ∷ 0 ∷ []
+unfolding reads bytes
+one-comma-behind-a-pair = refl
+
+-- "after a comma the suffix is looked for anew": behind a pair too
+suffix-behind-a-pairs-comma : "a:1, //x\nb:2" hasRecords 5 ∷ 0 ∷ 12 ∷ 12 ∷ 6 ∷ 1 ∷ 0 ∷ 1 ∷ 1 ∷ 1 ∷ 2 ∷ 2 ∷ 3 ∷ 3 ∷ 1 ∷ 8 ∷ 5 ∷ 8 ∷ 8 ∷ 1 ∷ 1 ∷ 9 ∷ 10 ∷ 10 ∷ 1 ∷ 2 ∷ 11 ∷ 12 ∷ 12 ∷ 1 ∷ []
+unfolding reads bytes
+suffix-behind-a-pairs-comma = refl
+
+-- "with no line feed between": nor one with blanks behind it
+line-feed-and-blank : "1\n //c" hasRecords 2 ∷ 0 ∷ 1 ∷ 1 ∷ 1 ∷ []
+unfolding reads bytes
+line-feed-and-blank = refl
+
+-- a carriage return is none
+carriage-return-between : "1\r//c" hasRecords 2 ∷ 0 ∷ 1 ∷ 1 ∷ 1 ∷ 8 ∷ 2 ∷ 5 ∷ 5 ∷ 1 ∷ []
+unfolding reads bytes
+carriage-return-between = refl
+
+-- and one in the value is not between
+line-feed-in-the-value : "'\n'//c" hasRecords 3 ∷ 0 ∷ 3 ∷ 3 ∷ 1 ∷ 8 ∷ 3 ∷ 6 ∷ 6 ∷ 1 ∷ []
+unfolding reads bytes
+line-feed-in-the-value = refl
+
+-- "Comments before a value are prefix": before a pair they are the key's
+prefix-of-a-key : "//k\na:1" hasRecords 5 ∷ 0 ∷ 7 ∷ 7 ∷ 4 ∷ 7 ∷ 0 ∷ 3 ∷ 3 ∷ 1 ∷ 1 ∷ 4 ∷ 5 ∷ 5 ∷ 1 ∷ 2 ∷ 6 ∷ 7 ∷ 7 ∷ 1 ∷ []
+unfolding reads bytes
+prefix-of-a-key = refl

@@ -4,6 +4,7 @@ use mathlib.Core.Path.{_≡_, refl}
 use mathlib.Core.List.{[], _∷_}
 use Prim.Native.Nat.{ℕ}
 use lib.ListN.{replicate}
+use Rattle.eon_spec.specs.Utf8.{Boundary}
 use Rattle.eon_spec.specs.Parse.{refusal}
 use Rattle.eon_spec.specs.Calls.{done, refusedWith, place, checked, readText}
 use Rattle.eon_rows.proofs.Computing.{reads}
@@ -101,3 +102,18 @@ edges-of-three = refl
 edges-of-four : reads (0x27 ∷ 0xF0 ∷ 0x90 ∷ 0x80 ∷ 0x80 ∷ 0xF1 ∷ 0x80 ∷ 0x80 ∷ 0x80 ∷ 0xF3 ∷ 0xBF ∷ 0xBF ∷ 0xBF ∷ 0xF4 ∷ 0x8F ∷ 0xBF ∷ 0xBF ∷ 0x27 ∷ []) ≡ 0 ∷ 3 ∷ 0 ∷ 18 ∷ 18 ∷ 1 ∷ []
 unfolding reads
 edges-of-four = refl
+
+-- the first and the last character of one byte
+edges-of-one : reads (0x27 ∷ 0x00 ∷ 0x7F ∷ 0x27 ∷ []) ≡ 0 ∷ 3 ∷ 0 ∷ 4 ∷ 4 ∷ 1 ∷ []
+unfolding reads
+edges-of-one = refl
+
+-- ---- "at character boundaries up to the text's end": in bytes, one behind a character of two and one at the end
+
+boundary-behind-two-bytes : Boundary (0xC3 ∷ 0xA9 ∷ 0x61 ∷ []) 2
+unfolding reads
+boundary-behind-two-bytes = record { count = 1; place = refl }
+
+boundary-at-the-end : Boundary (0xC3 ∷ 0xA9 ∷ 0x61 ∷ []) 3
+unfolding reads
+boundary-at-the-end = record { count = 2; place = refl }

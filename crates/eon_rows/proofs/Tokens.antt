@@ -1,7 +1,10 @@
 -- Document 01's "Tokens", by rows: kind, start and end of each token, 0 for an invalid one. The answers are the original's over the printed
 -- rules.
 use mathlib.Core.Path.{_≡_, refl}
+use mathlib.Core.Bool.{false}
 use mathlib.Core.List.{[], _∷_}
+use mathlib.Core.Option.{none, some}
+use Rattle.eon_spec.specs.Token.{Comma, tokenFrom}
 use Rattle.eon_rows.proofs.Computing.{tokensOf, bytes, _hasTokens_}
 
 -- ---- "Kinds 1 to 15 in the enum's order"
@@ -136,3 +139,28 @@ backslash-closes = refl
 empty-multiline : "\"\"\"\"\"\" ''''''" hasTokens 14 ∷ 0 ∷ 6 ∷ 15 ∷ 7 ∷ 13 ∷ []
 unfolding tokensOf bytes
 empty-multiline = refl
+
+-- one and two single quotes do not close three
+quotes-inside-literal : "'''a'b''c'''" hasTokens 15 ∷ 0 ∷ 12 ∷ []
+unfolding tokensOf bytes
+quotes-inside-literal = refl
+
+-- "`[^"]` does not" exclude line feed in `"""` either
+line-feed-in-three : "\"\"\"\n\"\"\"" hasTokens 14 ∷ 0 ∷ 7 ∷ []
+unfolding tokensOf bytes
+line-feed-in-three = refl
+
+-- places are in bytes behind a string too
+place-behind-two-bytes : "'é' a" hasTokens 13 ∷ 0 ∷ 4 ∷ 10 ∷ 5 ∷ 6 ∷ []
+unfolding tokensOf bytes
+place-behind-two-bytes = refl
+
+-- ---- "The token call": the first token from a position on, with its place in the whole text
+
+token-from-a-position : tokenFrom (bytes "ab ,c") 2 ≡ some (record { kind = Comma; start = 3; end = 4; slice = bytes ","; newLine = false })
+unfolding tokensOf tokenFrom bytes
+token-from-a-position = refl
+
+no-token-behind-blanks : tokenFrom (bytes "a ") 1 ≡ none
+unfolding tokensOf tokenFrom bytes
+no-token-behind-blanks = refl

@@ -367,3 +367,25 @@ beside-letters = refl
 no-ascii : map ident (bytes "é" ∷ (97 ∷ 0xC3 ∷ []) ∷ []) ≡ replicate 2 (0 ∷ 0 ∷ [])
 unfolding ident bytes
 no-ascii = refl
+
+-- ---- further edges
+
+-- "its hexadecimal digits": the last small and the first capital letter
+u-small-f-capital-a : shows (bytes "\"\\u{fA}\"") ≡ 0 ∷ 0xC3 ∷ 0xBA ∷ []
+unfolding shows bytes
+u-small-f-capital-a = refl
+
+-- 24: the characters before 0, A and a
+u-foreign-before : map shows (bytes "\"\\u{/}\"" ∷ bytes "\"\\u{@}\"" ∷ bytes "\"\\u{`}\"" ∷ []) ≡ replicate 3 (24 ∷ 0 ∷ 0 ∷ 0 ∷ 0 ∷ [])
+unfolding shows bytes
+u-foreign-before = refl
+
+-- a code point with the sixth bit of its second byte of four
+u-20000 : shows (bytes "\"\\u{20000}\"") ≡ 0 ∷ 0xF0 ∷ 0xA0 ∷ 0x80 ∷ 0x80 ∷ []
+unfolding shows bytes
+u-20000 = refl
+
+-- a character of four bytes beside an escape stays as it is
+four-bytes-kept : shows (bytes "\"" ++ (0xF0 ∷ 0x9F ∷ 0x98 ∷ 0x80 ∷ []) ++ bytes "\\n\"") ≡ 0 ∷ 0xF0 ∷ 0x9F ∷ 0x98 ∷ 0x80 ∷ 10 ∷ []
+unfolding shows bytes
+four-bytes-kept = refl
