@@ -8,12 +8,11 @@ use lib.ListN.{replicate, take}
 use Rattle.eon_spec.specs.declared.FormatOptions.{FormatOptions}
 use Rattle.eon_spec.specs.declared.Setting.{Setting}
 use Rattle.eon_spec.specs.declared.Which.the-variants.{Quoted, Scratch}
-use Rattle.eon_spec.specs.declared.Answer.the-variants as answer
 use Rattle.eon_spec.specs.declared.Compared.the-variants as compared
 use Rattle.eon_spec.specs.declared.Unquoted.the-variants as unquoted
 use Rattle.eon_spec.specs.Parse.{refusal}
 use Rattle.eon_spec.specs.Layout.{setting, settingsOf, defaults, defaultOptions}
-use Rattle.eon_spec.specs.Calls.{done, refusedWith, nowhere, place, After, after, afterBoth, Part, partOf, readCall, formatCall, reformatCall, fillBoth, compareCall, checkedSettings, unquoteCall, showCall, shownPlace, outcomeOf, comparedOutcome, unquotedOutcome}
+use Rattle.eon_spec.specs.Calls.{done, refusedWith, nowhere, place, After, after, afterBoth, Part, partOf, readCall, formatCall, reformatCall, fillBoth, compareCall, checkedSettings, unquoteCall, showCall, shownPlace, comparedOutcome, unquotedOutcome}
 use Rattle.eon_rows.proofs.Computing.{reads, writes, bytes, compares, shows}
 
 -- the words of `1 2` and of `1`
@@ -318,7 +317,7 @@ standing-beyond : map (λ (p : Part). shownPlace p (bytes "'ab'") (7 ∷ 8 ∷ 9
 unfolding shownPlace bytes
 standing-beyond = refl
 
--- ---- further edges
+-- ---- options and refusals in one call; answers that are enums
 
 -- reading and layout in one call are by the options too
 reformat-by-options : reformatCall (bytes "a:1") (replicate 15 9) marked (replicate 14 0) ≡ afterBoth (done 14) wordsA1 (bytes "{<n><i>a=1<n>}")
@@ -337,7 +336,3 @@ equal-or-not = refl
 -- "Filling answers which slice, start and length"
 which-start-length : map unquotedOutcome (unquoted.Part Quoted 1 2 ∷ unquoted.Refused (nowhere 14) ∷ []) ≡ done (partOf Quoted 1 2) ∷ refusedWith (nowhere 14) ∷ []
 which-start-length = refl
-
--- "number, start and end in bytes" of reading's and layout's refusals, or how much was written
-written-or-refused : map outcomeOf (answer.Done 3 ∷ answer.Refused (nowhere 14) ∷ []) ≡ done 3 ∷ refusedWith (nowhere 14) ∷ []
-written-or-refused = refl

@@ -344,7 +344,7 @@ indented-shared : "['A'([1])]" isWritten "[\n\t'A'([\n\t\t1\n\t])\n]"
 unfolding writes bytes
 indented-shared = refl
 
--- ---- further edges
+-- ---- comments, settings and steps in each place
 
 -- "empty container": a map with a comment in it is not simple
 commented-map-is-not-simple : "[{//c\n}]" isWritten "[\n\t{\n\t\t//c\n\t}\n]"

@@ -154,9 +154,9 @@ a-byte-fewer : runWrites (bytes "1 2") (replicate 15 9) (replicate 5 7) ≡ afte
 unfolding compares writes formatCall checkedSettings bytes
 a-byte-fewer = refl
 
--- ---- further edges
+-- ---- records of each kind, and values in each place
 
--- "its tree has no record of kinds 7 to 9": a prefix
+-- "No comments: its tree has no record of kinds 7 to 9": a prefix
 prefix-met : met (bytes "[//c\n1]") ≡ 0 ∷ 0 ∷ 1 ∷ 1 ∷ 1 ∷ 1 ∷ []
 unfolding met bytes
 prefix-met = refl
@@ -166,7 +166,7 @@ closing-met : met (bytes "[1\n//c\n]") ≡ 0 ∷ 0 ∷ 1 ∷ 1 ∷ 1 ∷ 1 ∷ [
 unfolding met bytes
 closing-met = refl
 
--- "no variant with empty parentheses": in a list, behind another value
+-- "A variant has empty parentheses if it holds no value": one in a list, behind another value
 empty-variant-in-a-list : met (bytes "[1 'A'()]") ≡ 0 ∷ 1 ∷ 0 ∷ 1 ∷ 1 ∷ 1 ∷ []
 unfolding met bytes
 empty-variant-in-a-list = refl
@@ -235,7 +235,7 @@ refused-wrote-nothing = refl
 evening-on-what-was-written : (s table1 out1 table2 out2 : List ℕ) (r : Runs) (table1′ out1′ table2′ out2′ : List ℕ) → IsRow s table1 out1 table2 out2 r table1′ out1′ table2′ out2′ → after (outcomeOf (r .evening .read)) table2′ ≡ readCall (eveningText s table1 out1) table2
 evening-on-what-was-written s table1 out1 table2 out2 r table1′ out1′ table2′ out2′ h = h .evening .reads
 
--- ---- what is claimed of the four calls
+-- ---- "Demand 3 is one claim about the four calls in a row, its last sentence about two such rows"
 
 -- under the premises, with memory that suffices in both runs
 claimed : (s table1 out1 table2 out2 : List ℕ) (r : Runs) (table1′ out1′ table2′ out2′ : List ℕ) → IsRow s table1 out1 table2 out2 r table1′ out1′ table2′ out2′ → (t : TokenTree) → Premises s t → Suffices t table1 out1 → Suffices t table2 out2 → TwoRuns s t table1 out1 table2 out2 (r .afternoon) (r .evening) table1′ out1′ table2′ out2′
@@ -245,14 +245,14 @@ claimed s table1 out1 table2 out2 r table1′ out1′ table2′ out2′ h = h .u
 afternoon-table : (s : List ℕ) (t : TokenTree) (table1 out1 table2 out2 : List ℕ) (r1 r2 : Run) (table1′ out1′ table2′ out2′ : List ℕ) → TwoRuns s t table1 out1 table2 out2 r1 r2 table1′ out1′ table2′ out2′ → after (outcomeOf (r1 .read)) table1′ ≡ after (done (length (treeRecords t))) (words (treeRecords t) ++ drop (length (words (treeRecords t))) table1)
 afternoon-table s t table1 out1 table2 out2 r1 r2 table1′ out1′ table2′ out2′ h = h .afternoon .reads
 
--- "the evening's written text equals the afternoon's, byte for byte"
+-- demand 3's "the evening's written text equals the afternoon's, byte for byte"
 evening-bytes : (s : List ℕ) (t : TokenTree) (table1 out1 table2 out2 : List ℕ) (r1 r2 : Run) (table1′ out1′ table2′ out2′ : List ℕ) → TwoRuns s t table1 out1 table2 out2 r1 r2 table1′ out1′ table2′ out2′ → after (outcomeOf (r2 .written)) out2′ ≡ after (done (length (format defaults t))) (format defaults t ++ drop (length (format defaults t)) out2)
 evening-bytes s t table1 out1 table2 out2 r1 r2 table1′ out1′ table2′ out2′ h = h .evening .writes
 
--- "the evening tree equals the afternoon tree, spans aside": each with its own text
+-- "Trees are equal by the comparison above": each tree with its own text
 evening-tree-equal : (s : List ℕ) (t : TokenTree) (table1 out1 table2 out2 : List ℕ) (r1 r2 : Run) (table1′ out1′ table2′ out2′ : List ℕ) → (h : TwoRuns s t table1 out1 table2 out2 r1 r2 table1′ out1′ table2′ out2′) → sameRecords s (treeRecords t) (format defaults t) (treeRecords (h .evening-tree)) ≡ true
 evening-tree-equal s t table1 out1 table2 out2 r1 r2 table1′ out1′ table2′ out2′ h = h .same-tree
 
--- "share a written text exactly when their trees are equal": each with its own text
+-- demand 3's "share a written text exactly when their trees are equal": each with its own text again
 shared-text : (s : List ℕ) (a : TokenTree) (r : Run) (out′ t : List ℕ) (b : TokenTree) (q : Run) (end′ : List ℕ) → ShareText s a r out′ t b q end′ → (wrote (after (outcomeOf (r .written)) out′) ≡ wrote (after (outcomeOf (q .written)) end′)) ↔ (sameRecords s (treeRecords a) t (treeRecords b) ≡ true)
 shared-text s a r out′ t b q end′ h = h

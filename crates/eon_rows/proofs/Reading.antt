@@ -331,7 +331,7 @@ map-alternates : "a:[1]b:2" hasRecords 5 ∷ 0 ∷ 8 ∷ 8 ∷ 6 ∷ 1 ∷ 0 ∷
 unfolding reads bytes
 map-alternates = refl
 
--- ---- further edges
+-- ---- places, names and line feeds between
 
 -- "12 .. previous span": a suffix is the previous token
 suffix-cut-off : "[1 //c" isRefused 12 ∷ 3 ∷ 6 ∷ 3 ∷ 0 ∷ []

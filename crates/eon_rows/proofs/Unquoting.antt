@@ -368,7 +368,7 @@ no-ascii : map ident (bytes "é" ∷ (97 ∷ 0xC3 ∷ []) ∷ []) ≡ replicate 
 unfolding ident bytes
 no-ascii = refl
 
--- ---- further edges
+-- ---- digits and characters at their edges
 
 -- "its hexadecimal digits": the last small and the first capital letter
 u-small-f-capital-a : shows (bytes "\"\\u{fA}\"") ≡ 0 ∷ 0xC3 ∷ 0xBA ∷ []
