@@ -10,4 +10,5 @@ pub mod Unquoting
 pub mod Comparing
 pub mod Calls
 pub mod Premises
+pub mod AfternoonEvening
 pub mod LongestWritten

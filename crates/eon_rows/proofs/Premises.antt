@@ -1,21 +1,17 @@
 -- The premises of demand 3 (document 01, "Afternoon and evening"), by computing: texts at the edge of each meet them, and each is needed
--- (for the written text's length: LongestWritten).
+-- (for the written text's length: LongestWritten; for lent memory: AfternoonEvening).
 use mathlib.Core.Path.{_≡_, refl, ap}
 use mathlib.Core.Bool.{Bool, true, false}
 use mathlib.Core.List.{List, [], _∷_, _++_}
-use mathlib.Core.Logic.{_↔_}
-use Prim.Native.Nat.{ℕ, _*_, _≤_}
+use Prim.Native.Nat.{ℕ}
 use native.Mathlib.Omega.{arith}
 use lib.ListN.{length, replicate, take, drop}
 use lib.Dec.{leb}
 use borrow.Author.Tests.{le-leb, leb-true}
-use Rattle.eon_spec.specs.declared.Run.{Run}
-use Rattle.eon_spec.specs.declared.Runs.{Runs}
 use Rattle.eon_spec.specs.Tree.{TokenTree}
-use Rattle.eon_spec.specs.Records.{treeRecords, words}
 use Rattle.eon_spec.specs.Layout.{defaults, format}
-use Rattle.eon_spec.specs.Calls.{Outcome, done, refusedWith, nowhere, after, then, readText, readCall, formatCall, checkedSettings, outcomeOf, sameRecords}
-use Rattle.eon_spec.specs.Runs.{Premises, Suffices, runReads, runWrites, wrote, eveningText, IsRow, TwoRuns, ShareText, noComments, everyVariant, holdsValue, fitsOrHoldsOne, depth, height}
+use Rattle.eon_spec.specs.Calls.{Outcome, done, refusedWith, then, readText}
+use Rattle.eon_spec.specs.Runs.{Premises, noComments, everyVariant, holdsValue, fitsOrHoldsOne, depth, height}
 use Rattle.eon_rows.proofs.Computing.{reads, writes, compares, bytes, plain, truth}
 
 -- 1 for each premise on the tree that it meets, 0 for one that it does not: comments, empty parentheses, variants, depth, length
@@ -90,11 +86,6 @@ depth-63-in-a-map : met (bytes "a:" ++ replicate 63 91 ++ bytes "1" ++ replicate
 unfolding met bytes
 depth-63-in-a-map = refl
 
--- memory that just suffices: fifteen words and six bytes
-just-enough : (t : TokenTree) × (readText (bytes "1 2") ≡ done t) × Suffices t (replicate 15 9) (replicate 6 7)
-unfolding reads writes bytes
-just-enough = (_, refl, record { records = omega arith; bytes = omega arith })
-
 -- ---- outside: what is written is read as another tree, or is refused
 
 -- empty parentheses are lost
@@ -144,15 +135,6 @@ depth-64-met = refl
 depth-64 : take 1 (reads (drop 1 (writes (bytes "2 " ++ replicate 63 91 ++ bytes "1" ++ replicate 63 93)))) ≡ 4 ∷ []
 unfolding writes bytes
 depth-64 = refl
-
--- a word or a byte fewer than suffices: the run's call refuses
-a-word-fewer : runReads (bytes "1 2") (replicate 14 9) ≡ after (refusedWith (nowhere 14)) (replicate 14 9)
-unfolding compares bytes
-a-word-fewer = refl
-
-a-byte-fewer : runWrites (bytes "1 2") (replicate 15 9) (replicate 5 7) ≡ after (refusedWith (nowhere 14)) (replicate 5 7)
-unfolding compares writes formatCall checkedSettings bytes
-a-byte-fewer = refl
 
 -- ---- records of each kind, and values in each place
 
@@ -209,50 +191,3 @@ depth-64-in-a-key = refl
 depth-64-in-a-later-pair : met (inside 61 (bytes "{a:1 b:[2]}")) ≡ 0 ∷ 1 ∷ 1 ∷ 1 ∷ 0 ∷ 1 ∷ []
 unfolding met bytes
 depth-64-in-a-later-pair = refl
-
--- ---- "Memory suffices if each table has room for the records of the afternoon tree and each output for the bytes of the afternoon's
--- written text": five words a record
-
-words-of-records : (t : TokenTree) (table out : List ℕ) → Suffices t table out → 5 * length (treeRecords t) ≤ length table
-words-of-records t table out h = h .records
-
-bytes-of-the-text : (t : TokenTree) (table out : List ℕ) → Suffices t table out → length (format defaults t) ≤ length out
-bytes-of-the-text t table out h = h .bytes
-
--- ---- "The evening text is exactly the bytes that the afternoon run wrote"
-
--- and not the output's bytes behind them
-written-bytes-alone : eveningText (bytes "1 2") (replicate 15 9) (replicate 8 7) ≡ bytes "[1, 2]"
-unfolding compares writes formatCall checkedSettings bytes
-written-bytes-alone = refl
-
--- a refusal wrote none
-refused-wrote-nothing : eveningText (bytes "1 2") (replicate 15 9) (replicate 5 7) ≡ []
-unfolding compares writes formatCall checkedSettings bytes
-refused-wrote-nothing = refl
-
--- the evening's calls are on that text
-evening-on-what-was-written : (s table1 out1 table2 out2 : List ℕ) (r : Runs) (table1′ out1′ table2′ out2′ : List ℕ) → IsRow s table1 out1 table2 out2 r table1′ out1′ table2′ out2′ → after (outcomeOf (r .evening .read)) table2′ ≡ readCall (eveningText s table1 out1) table2
-evening-on-what-was-written s table1 out1 table2 out2 r table1′ out1′ table2′ out2′ h = h .evening .reads
-
--- ---- "Demand 3 is one claim about the four calls in a row, its last sentence about two such rows"
-
--- under the premises, with memory that suffices in both runs
-claimed : (s table1 out1 table2 out2 : List ℕ) (r : Runs) (table1′ out1′ table2′ out2′ : List ℕ) → IsRow s table1 out1 table2 out2 r table1′ out1′ table2′ out2′ → (t : TokenTree) → Premises s t → Suffices t table1 out1 → Suffices t table2 out2 → TwoRuns s t table1 out1 table2 out2 (r .afternoon) (r .evening) table1′ out1′ table2′ out2′
-claimed s table1 out1 table2 out2 r table1′ out1′ table2′ out2′ h = h .under-the-premises
-
--- the afternoon's table holds the tree and keeps the words behind it
-afternoon-table : (s : List ℕ) (t : TokenTree) (table1 out1 table2 out2 : List ℕ) (r1 r2 : Run) (table1′ out1′ table2′ out2′ : List ℕ) → TwoRuns s t table1 out1 table2 out2 r1 r2 table1′ out1′ table2′ out2′ → after (outcomeOf (r1 .read)) table1′ ≡ after (done (length (treeRecords t))) (words (treeRecords t) ++ drop (length (words (treeRecords t))) table1)
-afternoon-table s t table1 out1 table2 out2 r1 r2 table1′ out1′ table2′ out2′ h = h .afternoon .reads
-
--- demand 3's "the evening's written text equals the afternoon's, byte for byte"
-evening-bytes : (s : List ℕ) (t : TokenTree) (table1 out1 table2 out2 : List ℕ) (r1 r2 : Run) (table1′ out1′ table2′ out2′ : List ℕ) → TwoRuns s t table1 out1 table2 out2 r1 r2 table1′ out1′ table2′ out2′ → after (outcomeOf (r2 .written)) out2′ ≡ after (done (length (format defaults t))) (format defaults t ++ drop (length (format defaults t)) out2)
-evening-bytes s t table1 out1 table2 out2 r1 r2 table1′ out1′ table2′ out2′ h = h .evening .writes
-
--- "Trees are equal by the comparison above": each tree with its own text
-evening-tree-equal : (s : List ℕ) (t : TokenTree) (table1 out1 table2 out2 : List ℕ) (r1 r2 : Run) (table1′ out1′ table2′ out2′ : List ℕ) → (h : TwoRuns s t table1 out1 table2 out2 r1 r2 table1′ out1′ table2′ out2′) → sameRecords s (treeRecords t) (format defaults t) (treeRecords (h .evening-tree)) ≡ true
-evening-tree-equal s t table1 out1 table2 out2 r1 r2 table1′ out1′ table2′ out2′ h = h .same-tree
-
--- demand 3's "share a written text exactly when their trees are equal": each with its own text again
-shared-text : (s : List ℕ) (a : TokenTree) (r : Run) (out′ t : List ℕ) (b : TokenTree) (q : Run) (end′ : List ℕ) → ShareText s a r out′ t b q end′ → (wrote (after (outcomeOf (r .written)) out′) ≡ wrote (after (outcomeOf (q .written)) end′)) ↔ (sameRecords s (treeRecords a) t (treeRecords b) ≡ true)
-shared-text s a r out′ t b q end′ h = h
