@@ -389,3 +389,8 @@ u-20000 = refl
 four-bytes-kept : shows (bytes "\"" ++ (0xF0 ∷ 0x9F ∷ 0x98 ∷ 0x80 ∷ []) ++ bytes "\\n\"") ≡ 0 ∷ 0xF0 ∷ 0x9F ∷ 0x98 ∷ 0x80 ∷ 10 ∷ []
 unfolding shows bytes
 four-bytes-kept = refl
+
+-- "Underscores in `\u{..}` count as no digit": among eight digits there is no ninth
+u-underscore-among-eight : "\"\\u{0000_0041}\"" unquotesTo "A"
+unfolding shows bytes
+u-underscore-among-eight = refl
