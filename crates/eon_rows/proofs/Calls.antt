@@ -336,3 +336,8 @@ equal-or-not = refl
 -- "Filling answers which slice, start and length"
 which-start-length : map unquotedOutcome (unquoted.Part Quoted 1 2 ∷ unquoted.Refused (nowhere 14) ∷ []) ≡ done (partOf Quoted 1 2) ∷ refusedWith (nowhere 14) ∷ []
 which-start-length = refl
+
+-- "or is literal": three single quotes are, with a backslash too
+multiline-literal-with-backslash : unquoteCall (bytes "'''\\'''") [] ≡ after (done (partOf Quoted 3 1)) []
+unfolding shows bytes
+multiline-literal-with-backslash = refl

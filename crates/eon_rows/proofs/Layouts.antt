@@ -420,3 +420,38 @@ key-on-lines = refl
 comments-above-an-inner-key : "a:{//k\nb://v\n1}" isWritten "a: {\n\t//k\n\t//v\n\tb: 1\n}\n"
 unfolding writes bytes
 comments-above-an-inner-key = refl
+
+-- "identifier, number, string without line feed, or empty container": a line feed in the name of an empty variant does not matter
+line-feed-in-a-name : "['a\nb'()]" isWritten "['a\nb']"
+unfolding writes bytes
+line-feed-in-a-name = refl
+
+-- "anything else 7": a number counts 7 and no more
+number-below-60 : writes (bytes "[1 '" ++ replicate 48 97 ++ bytes "']") ≡ 0 ∷ (bytes "[1, '" ++ replicate 48 97 ++ bytes "']")
+unfolding writes bytes
+number-below-60 = refl
+
+-- "before a later item": in shared brackets not before the first value
+shared-list-first-prefix : "'A'([//p\n1])" isWritten "'A'([\n\t//p\n\t1\n])"
+unfolding writes bytes
+shared-list-first-prefix = refl
+
+-- nor before the first pair
+shared-map-first-prefix : "'A'({//k\na:1})" isWritten "'A'({\n\t//k\n\ta: 1\n})"
+unfolding writes bytes
+shared-map-first-prefix = refl
+
+-- "shares its brackets, `({` and `})`": a map inside a list
+indented-shared-map : "['A'({a:1})]" isWritten "[\n\t'A'({\n\t\ta: 1\n\t})\n]"
+unfolding writes bytes
+indented-shared-map = refl
+
+-- "and before closing comments after items": in an inner map
+inner-map-closing : "[{a:1\n//c\n}]" isWritten "[\n\t{\n\t\ta: 1\n\n\t\t//c\n\t}\n]"
+unfolding writes bytes
+inner-map-closing = refl
+
+-- "prefix comments, content, suffix": closing comments are of the content
+root-closing-before-suffix : "{a:1\n//c\n}//s" isWritten "a: 1\n\n//c\n //s"
+unfolding writes bytes
+root-closing-before-suffix = refl

@@ -382,3 +382,13 @@ line-feed-in-the-value = refl
 prefix-of-a-key : "//k\na:1" hasRecords 5 ∷ 0 ∷ 7 ∷ 7 ∷ 4 ∷ 7 ∷ 0 ∷ 3 ∷ 3 ∷ 1 ∷ 1 ∷ 4 ∷ 5 ∷ 5 ∷ 1 ∷ 2 ∷ 6 ∷ 7 ∷ 7 ∷ 1 ∷ []
 unfolding reads bytes
 prefix-of-a-key = refl
+
+-- "11 mismatch: wrong token": a comment on its own line before a colon is one
+comment-before-a-colon : "{a\n//c\n:1}" isRefused 11 ∷ 3 ∷ 6 ∷ 8 ∷ 1 ∷ []
+unfolding reads bytes
+comment-before-a-colon = refl
+
+-- "Several: a list spanning the text": comments before the first value are that value's
+prefix-of-the-first-of-several : "//p\n1 2" hasRecords 4 ∷ 0 ∷ 7 ∷ 7 ∷ 4 ∷ 7 ∷ 0 ∷ 3 ∷ 3 ∷ 1 ∷ 2 ∷ 4 ∷ 5 ∷ 5 ∷ 1 ∷ 2 ∷ 6 ∷ 7 ∷ 7 ∷ 1 ∷ []
+unfolding reads bytes
+prefix-of-the-first-of-several = refl

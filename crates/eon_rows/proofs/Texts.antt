@@ -108,6 +108,11 @@ edges-of-one : reads (0x27 ∷ 0x00 ∷ 0x7F ∷ 0x27 ∷ []) ≡ 0 ∷ 3 ∷ 0 
 unfolding reads
 edges-of-one = refl
 
+-- the second bytes that the others narrow, at their other ends: of E0, F0 and F4
+second-bytes : reads (0x27 ∷ 0xE0 ∷ 0xBF ∷ 0xBF ∷ 0xF0 ∷ 0xBF ∷ 0xBF ∷ 0xBF ∷ 0xF4 ∷ 0x80 ∷ 0x80 ∷ 0x80 ∷ 0x27 ∷ []) ≡ 0 ∷ 3 ∷ 0 ∷ 13 ∷ 13 ∷ 1 ∷ []
+unfolding reads
+second-bytes = refl
+
 -- ---- "at character boundaries up to the text's end": in bytes, one behind a character of two and one at the end
 
 boundary-behind-two-bytes : Boundary (0xC3 ∷ 0xA9 ∷ 0x61 ∷ []) 2

@@ -155,6 +155,26 @@ place-behind-two-bytes : "'é' a" hasTokens 13 ∷ 0 ∷ 4 ∷ 10 ∷ 5 ∷ 6 �
 unfolding tokensOf bytes
 place-behind-two-bytes = refl
 
+-- the first three single quotes close: what follows is a token of its own
+first-three-single-close : "'''a''''" hasTokens 15 ∷ 0 ∷ 7 ∷ 0 ∷ 7 ∷ 8 ∷ []
+unfolding tokensOf bytes
+first-three-single-close = refl
+
+-- "`.` excludes line feed", and not carriage return
+escaped-carriage-return : "\"\\\r\"" hasTokens 12 ∷ 0 ∷ 4 ∷ []
+unfolding tokensOf bytes
+escaped-carriage-return = refl
+
+-- "`[^"]`" takes a carriage return in a one-line string too
+carriage-return-in-string : "\"a\rb\"" hasTokens 12 ∷ 0 ∷ 5 ∷ []
+unfolding tokensOf bytes
+carriage-return-in-string = refl
+
+-- the printed rules have no letters but `a-zA-Z`: "an invalid token is one character"
+accented-letter : "é" hasTokens 0 ∷ 0 ∷ 2 ∷ []
+unfolding tokensOf bytes
+accented-letter = refl
+
 -- ---- "The token call": the first token from a position on, with its place in the whole text
 
 token-from-a-position : tokenFrom (bytes "ab ,c") 2 ≡ some (record { kind = Comma; start = 3; end = 4; slice = bytes ","; newLine = false })

@@ -394,3 +394,8 @@ four-bytes-kept = refl
 u-underscore-among-eight : "\"\\u{0000_0041}\"" unquotesTo "A"
 unfolding shows bytes
 u-underscore-among-eight = refl
+
+-- "21 unknown escape": a capital U is one
+capital-u : "\"\\U{41}\"" isNoString 21
+unfolding shows bytes
+capital-u = refl
