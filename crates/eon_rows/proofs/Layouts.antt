@@ -381,17 +381,22 @@ outer-braces-comments : writesBy (settings (bytes "\t") (bytes "\n") (bytes " ")
 unfolding writesBy bytes
 outer-braces-comments = refl
 
--- "Anything else has no line end after it": an identifier
-root-identifier : "a" isWritten "a"
+-- "Anything else has no line end after it", and its own comments stand around it: an identifier
+root-identifier : "//p\na//s" isWritten "//p\na //s"
 unfolding writes bytes
 root-identifier = refl
 
+-- a number
+root-number : "//p\n1//s" isWritten "//p\n1 //s"
+unfolding writes bytes
+root-number = refl
+
 -- a string
-root-string : "'a'" isWritten "'a'"
+root-string : "//p\n'a'//s" isWritten "//p\n'a' //s"
 unfolding writes bytes
 root-string = refl
 
--- a variant, with its own comments
+-- a variant
 root-variant : "//p\n'A'(1)//s" isWritten "//p\n'A'(1) //s"
 unfolding writes bytes
 root-variant = refl
