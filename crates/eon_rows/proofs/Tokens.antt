@@ -175,6 +175,11 @@ accented-letter : "é" hasTokens 0 ∷ 0 ∷ 2 ∷ []
 unfolding tokensOf bytes
 accented-letter = refl
 
+-- a backslash hides no quote in `"""`: the three behind it close, though a fourth follows
+backslash-before-four : "\"\"\"\\\"\"\"\"" hasTokens 14 ∷ 0 ∷ 7 ∷ 0 ∷ 7 ∷ 8 ∷ []
+unfolding tokensOf bytes
+backslash-before-four = refl
+
 -- ---- "The token call": the first token from a position on, with its place in the whole text
 
 token-from-a-position : tokenFrom (bytes "ab ,c") 2 ≡ some (record { kind = Comma; start = 3; end = 4; slice = bytes ","; newLine = false })
