@@ -460,3 +460,8 @@ inner-map-closing = refl
 root-closing-before-suffix : "{a:1\n//c\n}//s" isWritten "a: 1\n\n//c\n //s"
 unfolding writes bytes
 root-closing-before-suffix = refl
+
+-- "A blank line stands before a later item": behind a root map's own comments its first pair is no later one
+root-prefix-and-first-key : "//p\n{//k\na:1}" isWritten "//p\n//k\na: 1\n"
+unfolding writes bytes
+root-prefix-and-first-key = refl
