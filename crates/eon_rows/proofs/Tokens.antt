@@ -130,11 +130,6 @@ first-three-close : "\"\"\"a\"\"\"\"" hasTokens 14 ∷ 0 ∷ 7 ∷ 0 ∷ 7 ∷ 8
 unfolding tokensOf bytes
 first-three-close = refl
 
--- a backslash does not keep `"""` open
-backslash-closes : "\"\"\"\\\"\"\"" hasTokens 14 ∷ 0 ∷ 7 ∷ []
-unfolding tokensOf bytes
-backslash-closes = refl
-
 -- six quotes are one string
 empty-multiline : "\"\"\"\"\"\" ''''''" hasTokens 14 ∷ 0 ∷ 6 ∷ 15 ∷ 7 ∷ 13 ∷ []
 unfolding tokensOf bytes
