@@ -97,10 +97,14 @@ module _ (r : Runs) (table1 out1 table2 out2 : List ℕ) (row : IsRow (bytes "1 
   unfolding reads writes
   claim = row .under-the-premises t12 premises (record { records = omega arith; bytes = omega arith }) just-enough
 
-  -- "no call of the two runs refuses": the afternoon's table and output keep what is behind
+  -- "no call of the two runs refuses": the afternoon's table and output hold the tree and its text, and keep what is behind
   afternoon-leaves : after (outcomeOf (r .afternoon .read)) table1 ≡ after (done 3) (afternoonWords ++ (9 ∷ []))
   unfolding reads
   afternoon-leaves = claim .afternoon .reads
+
+  afternoon-leaves-text : after (outcomeOf (r .afternoon .written)) out1 ≡ after (done 6) (bytes "[1, 2]" ++ (7 ∷ []))
+  unfolding writes bytes
+  afternoon-leaves-text = claim .afternoon .writes
 
   -- "the evening's written text equals the afternoon's, byte for byte"
   evening-leaves : after (outcomeOf (r .evening .written)) out2 ≡ after (done 6) (bytes "[1, 2]")

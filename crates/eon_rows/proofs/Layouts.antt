@@ -238,7 +238,7 @@ unfolding writes bytes
 blank-before-closing = refl
 
 -- "A map is always on lines;
-map-on-lines : "[{a:1}]" isWritten "[\n\t{\n\t\ta: 1\n\t}\n]"
+map-on-lines : "a:{b:1}" isWritten "a: {\n\tb: 1\n}\n"
 unfolding writes bytes
 map-on-lines = refl
 

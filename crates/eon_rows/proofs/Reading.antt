@@ -264,7 +264,7 @@ prefix-of-a-value : "a: //c\n1" hasRecords 5 ∷ 0 ∷ 8 ∷ 8 ∷ 4 ∷ 1 ∷ 0
 unfolding reads bytes
 prefix-of-a-value = refl
 
--- "The first comment right after a value, with no line feed between, is its suffix"
+-- "The first comment right after a value, with no line feed between, is its suffix": the line feed that ends it parts the next from it
 suffix : "[1 //a\n//b\n]" hasRecords 4 ∷ 0 ∷ 12 ∷ 12 ∷ 4 ∷ 2 ∷ 1 ∷ 2 ∷ 2 ∷ 1 ∷ 8 ∷ 3 ∷ 6 ∷ 6 ∷ 1 ∷ 9 ∷ 7 ∷ 10 ∷ 10 ∷ 1 ∷ []
 unfolding reads bytes
 suffix = refl
@@ -303,11 +303,6 @@ suffix-replaced-by-none = refl
 comment-behind-comma-and-line : "[1,\n//x\n2]" hasRecords 4 ∷ 0 ∷ 10 ∷ 10 ∷ 4 ∷ 2 ∷ 1 ∷ 2 ∷ 2 ∷ 1 ∷ 7 ∷ 4 ∷ 7 ∷ 7 ∷ 1 ∷ 2 ∷ 8 ∷ 9 ∷ 9 ∷ 1 ∷ []
 unfolding reads bytes
 comment-behind-comma-and-line = refl
-
--- the line feed that ends a comment stands before the next token
-line-feed-in-a-comment : "[1 //x\n//y\n]" hasRecords 4 ∷ 0 ∷ 12 ∷ 12 ∷ 4 ∷ 2 ∷ 1 ∷ 2 ∷ 2 ∷ 1 ∷ 8 ∷ 3 ∷ 6 ∷ 6 ∷ 1 ∷ 9 ∷ 7 ∷ 10 ∷ 10 ∷ 1 ∷ []
-unfolding reads bytes
-line-feed-in-a-comment = refl
 
 -- ---- records
 

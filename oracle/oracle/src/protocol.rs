@@ -123,15 +123,8 @@ impl Answer {
             Self::Truth(true) => out.extend(b"yes"),
             Self::Truth(false) => out.extend(b"no"),
             Self::Refused(refusal) => {
-                let Refusal {
-                    number,
-                    start,
-                    end,
-                    expected,
-                    found,
-                } = *refusal;
                 out.extend(b"refused");
-                write_numbers(&[number, start, end, expected, found], out);
+                write_numbers(&refusal.numbers(), out);
             }
         }
     }

@@ -66,6 +66,11 @@ impl Refusal {
             ..self
         }
     }
+
+    /// In document 01's order: number, start, end, expected kind, found kind.
+    pub fn numbers(self) -> [u32; 5] {
+        [self.number, self.start, self.end, self.expected, self.found]
+    }
 }
 
 /// A place within a text of checked length.

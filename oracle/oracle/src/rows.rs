@@ -79,7 +79,7 @@ fn answer(answer: &Answer) -> String {
         Answer::Words(words) => format!("0 ∷ {}", list(words.iter().copied())),
         Answer::Bytes(text) => format!("0 ∷ {}", bytes(text)),
         Answer::Truth(truth) => format!("0 ∷ {}", list([u32::from(*truth)])),
-        Answer::Refused(r) => list([r.number, r.start, r.end, r.expected, r.found]),
+        Answer::Refused(r) => list(r.numbers()),
     }
 }
 

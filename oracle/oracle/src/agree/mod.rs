@@ -3,7 +3,6 @@
 mod parse;
 
 use crate::protocol::{Answer, Case};
-use crate::refusal::Refusal;
 use parse::Fact;
 use std::fmt;
 
@@ -120,16 +119,7 @@ fn numbers(case: &Case) -> Vec<u32> {
         Answer::Words(words) => words,
         Answer::Bytes(bytes) => bytes.into_iter().map(u32::from).collect(),
         Answer::Truth(truth) => vec![u32::from(truth)],
-        Answer::Refused(refusal) => {
-            let Refusal {
-                number,
-                start,
-                end,
-                expected,
-                found,
-            } = refusal;
-            return vec![number, start, end, expected, found];
-        }
+        Answer::Refused(refusal) => return refusal.numbers().to_vec(),
     };
     [vec![0], answer].concat()
 }
