@@ -37,11 +37,11 @@ unfoldable mutual
   pairsSize noPairs = 0
   pairsSize (pair k v kvs) = treeSize k + (treeSize v + pairsSize kvs)
 
-comments-length : (k : ℕ) (cs : List Slice) → length (comments k cs) ≡ length cs
+pub comments-length : (k : ℕ) (cs : List Slice) → length (comments k cs) ≡ length cs
 comments-length k [] = refl
 comments-length k (c ∷ cs) = ap suc (comments-length k cs)
 
-suffix-length : (x : Option Slice) → length (suffix x) ≡ suffixSize x
+pub suffix-length : (x : Option Slice) → length (suffix x) ≡ suffixSize x
 suffix-length none = refl
 suffix-length (some c) = refl
 
@@ -51,7 +51,7 @@ mutual
   pub tree-size : (t : TokenTree) → length (treeRecords t) ≡ treeSize t
   tree-size (tree s p v x) = simp (length-append, comments-length, value-size v s, suffix-length)
 
-  value-size : (v : TokenValue) (s : Span) → length (valueRecords s v) ≡ valueSize v
+  pub value-size : (v : TokenValue) (s : Span) → length (valueRecords s v) ≡ valueSize v
   value-size (identifier b) s = refl
   value-size (number b) s = refl
   value-size (quotedString b) s = refl
@@ -59,10 +59,10 @@ mutual
   value-size (mapOf kvs cl) s = simp (length-append, comments-length, pairs-size kvs) (omega arith)
   value-size (variantOf n vs cl) s = simp (length-append, comments-length, trees-size vs) (omega arith)
 
-  trees-size : (ts : TokenTrees) → length (treesRecords ts) ≡ treesSize ts
+  pub trees-size : (ts : TokenTrees) → length (treesRecords ts) ≡ treesSize ts
   trees-size noTrees = refl
   trees-size (t ∷ᵗ ts) = simp (length-append, tree-size t, trees-size ts)
 
-  pairs-size : (kvs : KeyValues) → length (pairsRecords kvs) ≡ pairsSize kvs
+  pub pairs-size : (kvs : KeyValues) → length (pairsRecords kvs) ≡ pairsSize kvs
   pairs-size noPairs = refl
   pairs-size (pair k v kvs) = simp (length-append, tree-size k, tree-size v, pairs-size kvs) (omega arith)

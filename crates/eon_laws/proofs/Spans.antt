@@ -39,7 +39,8 @@ module _ (s : List ℕ) where
     ValueFits p (quotedString b) = Holds s p b
     ValueFits p (listOf vs cl) = TreesFit vs × HoldsAll cl
     ValueFits p (mapOf kvs cl) = PairsFit kvs × HoldsAll cl
-    ValueFits p (variantOf n vs cl) = HoldsSlice n × TreesFit vs × HoldsAll cl
+    -- the name stands at the variant's start
+    ValueFits p (variantOf n vs cl) = HoldsSlice n × TreesFit vs × HoldsAll cl × (n .span .start ≡ p .start) × (n .span .end ≤ p .end)
 
     pub TreesFit : TokenTrees → Type 0
     TreesFit noTrees = Unit {0}
@@ -253,12 +254,12 @@ module _ (s : List ℕ) where
 
       -- a container, which closes behind its inside
       close-ok : {A : Type 0} (c : Cursor) (Q : A → Cursor → Type 0) (bytes : A → ℕ) (close : TokenKind) (r : Read A) (f : A → TokenValue) → t .end ≤ last c .end → Ok c Q bytes r
-          → ((a : A) (d e : Cursor) → Q a d → ValueFits s (record { start = t .start; end = last e .end }) (f a) × (heightIn (f a) ≤ k)) → ((a : A) → valueBytes (f a) ≤ held (t .slice) + bytes a + 1)
+          → ((a : A) (d e : Cursor) → Q a d → t .end ≤ last e .end → ValueFits s (record { start = t .start; end = last e .end }) (f a) × (heightIn (f a) ≤ k)) → ((a : A) → valueBytes (f a) ≤ held (t .slice) + bytes a + 1)
           → Ok (behind l (t ∷ ts)) (From t) valueBytes (bind r λ a d. bind (consumeToken close d) λ u e. read (f a) e)
       close-ok c Q bytes close r f b o h n =
           bind-ok c Q bytes (From t) valueBytes (behind l (t ∷ ts)) r _ o λ a d ha ma.
           bind-ok d (λ u e. Unit {0}) (λ u. 1) (From t) valueBytes (behind l (t ∷ ts)) (consumeToken close d) _ (consume-ok close d (ma .good)) λ u e hu me.
-          let x = h a d e ha in
+          let x = h a d e ha (omega (arith, ma .took, me .took)) in
           ((x .0, omega (arith, ma .took, me .took), x .1), record { good = me .good; took = omega (arith, (past l t ts g) .took, ma .took, me .took, n a) })
 
       string-ok : Ok (behind l (t ∷ ts)) (From t) valueBytes (stringOrVariant value t (behind (spanOf t) ts))
@@ -273,7 +274,7 @@ module _ (s : List ℕ) where
               let j = skip-ok here ((past l t ts g) .good) in
               rw (e, stringOrVariant)
               (close-ok (skip here) (ListFits k) listBytes CloseParen (listInside value (skip here)) (λ x. variantOf (sliceOf t) (x .values) (x .closing)) (omega (arith, j .took))
-              (listInside-ok (skip here) (j .good)) (λ x d e h. ((g .1 .0 .holds, h .0 .0, h .0 .1), h .1)) (λ x. omega arith))
+              (listInside-ok (skip here) (j .good)) (λ x d e h q. ((g .1 .0 .holds, h .0 .0, h .0 .1, refl, q), h .1)) (λ x. omega arith))
           go false e = rw (e, stringOrVariant) (leaf-ok (quotedString (t .slice)) (g .1 .0 .holds) (omega arith) (omega arith))
 
       value-ok : (kind : TokenKind) → Ok (behind l (t ∷ ts)) (From t) valueBytes (valueOf value kind t (behind (spanOf t) ts))
@@ -282,11 +283,11 @@ module _ (s : List ℕ) where
       value-ok Comment = tt
       value-ok OpenList =
           close-ok (behind (spanOf t) ts) (ListFits k) listBytes CloseList (listInside value (behind (spanOf t) ts)) (λ x. listOf (x .values) (x .closing)) (omega arith)
-          (listInside-ok (behind (spanOf t) ts) ((past l t ts g) .good)) (λ x d e h. h) (λ x. omega (arith, held-some (t .slice)))
+          (listInside-ok (behind (spanOf t) ts) ((past l t ts g) .good)) (λ x d e h q. h) (λ x. omega (arith, held-some (t .slice)))
       value-ok CloseList = tt
       value-ok OpenBrace =
           close-ok (behind (spanOf t) ts) (MapFits k) mapBytes CloseBrace (mapInside value (behind (spanOf t) ts)) (λ x. mapOf (x .keyValues) (x .closing)) (omega arith)
-          (mapInside-ok (behind (spanOf t) ts) ((past l t ts g) .good)) (λ x d e h. h) (λ x. omega (arith, held-some (t .slice)))
+          (mapInside-ok (behind (spanOf t) ts) ((past l t ts g) .good)) (λ x d e h q. h) (λ x. omega (arith, held-some (t .slice)))
       value-ok CloseBrace = tt
       value-ok OpenParen = tt
       value-ok CloseParen = tt
