@@ -1,0 +1,3 @@
+pub mod Words
+pub mod TreeAt
+pub mod Finished
