@@ -9,12 +9,13 @@ use lib.ListN.{length, drop}
 use borrow.Author.Tests.{le-leb, lt-leb}
 use Rattle.eon_spec.specs.Tree.{Slice, TokenTree, KeyValues, tree, identifier, number, quotedString, listOf, mapOf, variantOf}
 use Rattle.eon_spec.specs.Layout.{Settings, noKeyValues, prefixOf, suffixOf, closing, indentedValue, mapContent, indentedComments, suffixComment, withoutBraces, format}
-use Rattle.eon_format.specs.Tabled.{AfterPrefix, word, TreeAt, ValueAt}
 use Rattle.eon_format.proofs.Records.{clash}
 use Rattle.eon_format.specs.Put.{Wrote}
 use Rattle.eon_format.proofs.Writing.{wrote-then, wrote-as, wrote-length}
-use Rattle.eon_format.proofs.Trees.{never, kindOf, value-kind}
-use Rattle.eon_format.proofs.Walk.{valueOf, tree-value}
+use Rattle.eon_format.proofs.Trees.{never}
+use Rattle.eon_table.specs.Words.{AfterPrefix, word}
+use Rattle.eon_table.specs.TreeAt.{TreeAt, ValueAt, kindOf, valueOf}
+use Rattle.eon_table.proofs.Walk.{value-kind, tree-value}
 use Rattle.eon_spec.specs.declared.Answer.the-variants.{Done, Refused}
 use Rattle.eon_spec.specs.Calls.{done, refusedWith, nowhere, after, outcomeOf, fill}
 use lib.Seq.{sets, sets-eq}

@@ -1,29 +1,20 @@
 -- Laws of the table's words and of the records of a tree.
-use mathlib.Core.Path.{_≡_, refl, sym, ap, _∙_, subst}
+use mathlib.Core.Path.{_≡_, refl, sym, ap, _∙_}
 use mathlib.Core.Bool.{Bool, true, false, not, cond}
 use mathlib.Core.Option.{Option, none, some}
 use mathlib.Core.List.{List, [], _∷_, _++_}
 use Prim.Native.Nat.{ℕ, zero, suc, _+_, _-_, _≤_, _<_}
 use native.Mathlib.Omega.{arith}
-use native.Mathlib.Decide.{decLe, decLt}
-use lib.ListN.{length, List·getD-eq-default}
+use lib.ListN.{length}
 use lib.Dec.{ltb, eqb}
 use borrow.Author.Tests.{lt-ltb, le-ltb, eq-eqb, ne-eqb}
 use Rattle.eon_spec.specs.Tree.{Slice}
 use Rattle.eon_spec.specs.Layout.{Settings, addIndent, suffixComment, indentedComments, closing}
 use Rattle.eon_spec.specs.Base.{elem, codes}
 use Rattle.eon_format.specs.Flat.{commaAt, simpleAt, widthAt, lineAt, oneLineAt, flatAt, plainAt, plainLine}
-use Rattle.eon_format.specs.Tabled.{word, hasSuffix, AfterPrefix, Within, textAt, Texts, lines, closingLines, SuffixAt, CommentsAt}
-
--- a word that is not 0 stands in the table
-pub word-in : (tb : List ℕ) (i k w : ℕ) → word tb i k ≡ suc w → i < length tb
-word-in tb i k w e = go (decLt i (length tb))
-  where
-    go : Dec (i < length tb) → i < length tb
-    go (yes h) = h
-    go (no h) =
-        let z : word tb i k ≡ 0 = List·getD-eq-default tb 0 (omega arith) in
-        absurd (omega arith)
+use Rattle.eon_format.specs.Lines.{lines, closingLines}
+use Rattle.eon_table.specs.Words.{word, hasSuffix, Within, textAt}
+use Rattle.eon_table.specs.TreeAt.{SuffixAt, CommentsAt}
 
 -- ---- comments
 
@@ -44,14 +35,6 @@ pub lines-none : (s tb : List ℕ) (o : Settings) (n j end : ℕ) → end ≤ j 
 unfolding lines
 lines-none s tb o n j end h = let e : end - j ≡ 0 = omega arith in rw e
 
-pub comments-texts : (s tb : List ℕ) (k i : ℕ) (cs : List Slice) → CommentsAt s tb k i cs → Texts s tb i (i + length cs)
-comments-texts s tb k i [] h j a b = absurd (omega arith)
-comments-texts s tb k i (c ∷ cs) h j a b = go (decLe j i) (comments-texts s tb k (i + 1) cs (h .1) j)
-  where
-    go : Dec (j ≤ i) → (i + 1 ≤ j → j < i + 1 + length cs → Within s tb j) → Within s tb j
-    go (yes d) f = subst (Within s tb) (omega arith) (h .0 .inText)
-    go (no d) f = f (omega arith) (omega arith)
-
 pub closing-comments : (s tb : List ℕ) (o : Settings) (n i : ℕ) (empty : Bool) (cl : List Slice) → CommentsAt s tb 9 i cl →
     closingLines s tb o n empty i (length cl) ≡ closing o n empty cl
 unfolding closingLines
@@ -59,24 +42,6 @@ closing-comments s tb o n i true [] h = refl
 closing-comments s tb o n i false [] h = refl
 closing-comments s tb o n i true (c ∷ cs) h = lines-comments s tb o n 9 i (c ∷ cs) h
 closing-comments s tb o n i false (c ∷ cs) h = ap (λ (b : List ℕ). o .newline ++ b) (lines-comments s tb o n 9 i (c ∷ cs) h)
-
--- a record of a kind among comments
-pub comments-kind : (s tb : List ℕ) (k i : ℕ) (cs : List Slice) → CommentsAt s tb k i cs → (j : ℕ) → i ≤ j → j < i + length cs → word tb j 0 ≡ k
-comments-kind s tb k i [] h j a b = absurd (omega arith)
-comments-kind s tb k i (c ∷ cs) h j a b = go (decLe j i) (comments-kind s tb k (i + 1) cs (h .1) j)
-  where
-    go : Dec (j ≤ i) → (i + 1 ≤ j → j < i + 1 + length cs → word tb j 0 ≡ k) → word tb j 0 ≡ k
-    go (yes d) f = subst (λ (m : ℕ). word tb m 0 ≡ k) (omega arith) (h .0 .isKind)
-    go (no d) f = f (omega arith) (omega arith)
-
--- where the prefix comments end
-pub prefix-ends : (s tb : List ℕ) (i r : ℕ) (p : List Slice) → CommentsAt s tb 7 i p → (word tb (i + length p) 0 ≡ 7 → ⊥) → AfterPrefix tb i r → r ≡ i + length p
-prefix-ends s tb i r p h e a = go (decLe (i + length p) r) (decLe r (i + length p))
-  where
-    go : Dec (i + length p ≤ r) → Dec (r ≤ i + length p) → r ≡ i + length p
-    go (yes x) (yes y) = omega arith
-    go (yes x) (no y) = absurd (e (a .prefix (i + length p) (omega arith) (omega arith)))
-    go (no x) d = absurd (a .ends (comments-kind s tb 7 i p h r (a .from) (omega arith)))
 
 -- ---- closing comments by the table
 

@@ -12,32 +12,35 @@ use Rattle.eon_spec.specs.Base.{codes}
 use Rattle.eon_spec.specs.Tree.{Slice, TokenTree, TokenValue, TokenTrees, KeyValues, tree, identifier, number, quotedString, listOf, mapOf, variantOf, noTrees, _∷ᵗ_, noPairs, pair}
 use Rattle.eon_spec.specs.Layout.{Settings, isEmpty, noValues, noKeyValues, isSimple, allTrees, valuesOnOneLine, onOneLine, value, bareValue, oneLine}
 use Rattle.eon_format.specs.Flat.{flatAt, plainAt, plainLine, Plain}
-use Rattle.eon_format.specs.Tabled.{word, textAt, CommentsAt, HeadAt, TreeAt, ValueAt, TreesAt, InsideAt, sizeTree, sizeValue, sizeTrees, sizePairs}
 use Rattle.eon_format.proofs.Records.{plain-list, plain-map, plain-text, line-none, line-more, flat-map, flat-more}
-use Rattle.eon_format.proofs.Trees.{never, and-left, and-right, tree-pos, value-kind, value-size, value-plain, bare-value, simple-size, value-one, inside-next, inside-tree, inside-in, inside-end, one-line-law}
+use Rattle.eon_format.proofs.Trees.{never, and-left, and-right, value-plain, simple-size, value-one, one-line-law}
+use Rattle.eon_table.specs.Words.{word, textAt}
+use Rattle.eon_table.specs.TreeAt.{TreeAt, ValueAt, InsideAt}
+use Rattle.eon_laws.proofs.Records.{treeSize, valueSize, treesSize, pairsSize}
+use Rattle.eon_table.proofs.Walk.{tree-pos, value-kind, value-size, bare-value, inside-next, inside-tree, inside-in, inside-end, list-inside, variant-inside}
 
 -- ---- values of one record
 
-one-list : (vs : TokenTrees) (cl : List Slice) → 1 + sizeTrees vs + length cl ≡ 1 → (noValues vs && isEmpty cl) ≡ true
-unfolding sizeTrees
+one-list : (vs : TokenTrees) (cl : List Slice) → 1 + (treesSize vs + length cl) ≡ 1 → (noValues vs && isEmpty cl) ≡ true
+unfolding treesSize
 one-list noTrees [] e = refl
 one-list noTrees (c ∷ cs) e = absurd (omega arith)
-one-list (t ∷ᵗ ts) cl e = let p : 1 ≤ sizeTree t = tree-pos t in absurd (omega arith)
+one-list (t ∷ᵗ ts) cl e = let p : 1 ≤ treeSize t = tree-pos t in absurd (omega arith)
 
-one-map : (vs : KeyValues) (cl : List Slice) → 1 + sizePairs vs + length cl ≡ 1 → (noKeyValues vs && isEmpty cl) ≡ true
-unfolding sizePairs
+one-map : (vs : KeyValues) (cl : List Slice) → 1 + (pairsSize vs + length cl) ≡ 1 → (noKeyValues vs && isEmpty cl) ≡ true
+unfolding pairsSize
 one-map noPairs [] e = refl
 one-map noPairs (c ∷ cs) e = absurd (omega arith)
-one-map (pair k v kvs) cl e = let p : 1 ≤ sizeTree k = tree-pos k in absurd (omega arith)
+one-map (pair k v kvs) cl e = let p : 1 ≤ treeSize k = tree-pos k in absurd (omega arith)
 
-pub more-list : (vs : TokenTrees) (cl : List Slice) → (1 + sizeTrees vs + length cl ≡ 1 → ⊥) → (noValues vs && isEmpty cl) ≡ false
-unfolding sizeTrees
+pub more-list : (vs : TokenTrees) (cl : List Slice) → (1 + (treesSize vs + length cl) ≡ 1 → ⊥) → (noValues vs && isEmpty cl) ≡ false
+unfolding treesSize
 more-list noTrees [] e = absurd (e refl)
 more-list noTrees (c ∷ cs) e = refl
 more-list (t ∷ᵗ ts) cl e = refl
 
-pub more-map : (vs : KeyValues) (cl : List Slice) → (1 + sizePairs vs + length cl ≡ 1 → ⊥) → (noKeyValues vs && isEmpty cl) ≡ false
-unfolding sizePairs
+pub more-map : (vs : KeyValues) (cl : List Slice) → (1 + (pairsSize vs + length cl) ≡ 1 → ⊥) → (noKeyValues vs && isEmpty cl) ≡ false
+unfolding pairsSize
 more-map noPairs [] e = absurd (e refl)
 more-map noPairs (c ∷ cs) e = refl
 more-map (pair k v kvs) cl e = refl
@@ -60,8 +63,8 @@ module _ (s tb : List ℕ) where
         go (no d) f = f (omega arith) b
 
 module _ (s tb : List ℕ) (o : Settings) (n : ℕ) where
-  pub plain-law : (i : ℕ) (v : TokenValue) → ValueAt s tb i v → sizeValue v ≡ 1 → plainAt s tb i ≡ value o n v
-  unfolding value ValueAt sizeValue
+  pub plain-law : (i : ℕ) (v : TokenValue) → ValueAt s tb i v → valueSize v ≡ 1 → plainAt s tb i ≡ value o n v
+  unfolding value ValueAt valueSize
   plain-law i (identifier b) h e = sym (plain-text s tb i (λ z. let q : word tb i 0 ≡ 1 = h .isKind in omega arith) (λ z. let q : word tb i 0 ≡ 1 = h .isKind in omega arith)) ∙ h .bytes
   plain-law i (number b) h e = sym (plain-text s tb i (λ z. let q : word tb i 0 ≡ 2 = h .isKind in omega arith) (λ z. let q : word tb i 0 ≡ 2 = h .isKind in omega arith)) ∙ h .bytes
   plain-law i (quotedString b) h e = sym (plain-text s tb i (λ z. let q : word tb i 0 ≡ 3 = h .isKind in omega arith) (λ z. let q : word tb i 0 ≡ 3 = h .isKind in omega arith)) ∙ h .bytes
@@ -125,35 +128,13 @@ module _ (o : Settings) (n : ℕ) where
   variant-row m vs cl p q = rw (p, q, value)
 
 module _ (s tb : List ℕ) (i : ℕ) where
-  pub trees-inside : (vs : TokenTrees) (cl : List Slice) (k : ℕ) → HeadAt s tb k (1 + sizeTrees vs + length cl) i →
-      TreesAt s tb (i + (1 + sizeTrees vs + length cl)) (i + 1) vs → CommentsAt s tb 9 (i + 1 + sizeTrees vs) cl →
-      InsideAt s tb (i + word tb i 4) (i + 1) vs cl
-  trees-inside vs cl k h a b =
-      let e : word tb i 4 ≡ 1 + sizeTrees vs + length cl = h .isSize in
-      record { values = subst (λ (m : ℕ). TreesAt s tb (i + m) (i + 1) vs) (sym e) a; closing = b; all = omega arith }
-
-  pub list-inside : (vs : TokenTrees) (cl : List Slice) → ValueAt s tb i (listOf vs cl) → InsideAt s tb (i + word tb i 4) (i + 1) vs cl
-  unfolding ValueAt sizeValue
-  list-inside vs cl h = trees-inside vs cl 4 (h .0) (h .1) (h .2)
-
-  pub variant-inside : (m : Slice) (vs : TokenTrees) (cl : List Slice) → ValueAt s tb i (variantOf m vs cl) → InsideAt s tb (i + word tb i 4) (i + 1) vs cl
-  unfolding ValueAt sizeValue
-  variant-inside m vs cl h = trees-inside vs cl 6 (h .0) (h .1) (h .2)
-
-  -- with the size as the code has it
-  pub inside-by : (w : ℕ) → w ≡ word tb i 4 → (vs : TokenTrees) (cl : List Slice) → InsideAt s tb (i + word tb i 4) (i + 1) vs cl → InsideAt s tb (i + w) (i + 1) vs cl
-  inside-by w e vs cl h = subst (λ (x : ℕ). InsideAt s tb (i + x) (i + 1) vs cl) (sym e) h
-
-  pub list-values : (w : ℕ) → w ≡ word tb i 4 → (vs : TokenTrees) (cl : List Slice) → ValueAt s tb i (listOf vs cl) → InsideAt s tb (i + w) (i + 1) vs cl
-  list-values w e vs cl h = inside-by w e vs cl (list-inside vs cl h)
-
   abbrev Long : Type 0
   Long = word tb i 4 ≡ 1 → ⊥
 
   flat-one-line : (vs : TokenTrees) (cl : List Slice) (k : ℕ) → InsideAt s tb (i + word tb i 4) (i + 1) vs cl → word tb i 0 ≡ k → (k ≡ 5 → ⊥) → Long → flatAt s tb i ≡ true → onOneLine vs cl ≡ true
   flat-one-line vs cl k h e a l f = one-line-law s tb (i + word tb i 4) (i + 1) vs cl h ∙ flat-more s tb i l (λ z. a (sym e ∙ z)) ∙ f
 
-  no-leaf : {A : Type 0} (v : TokenValue) → ValueAt s tb i v → sizeValue v ≡ 1 → Long → A
+  no-leaf : {A : Type 0} (v : TokenValue) → ValueAt s tb i v → valueSize v ≡ 1 → Long → A
   no-leaf v h e l = absurd (l (value-size s tb i v h ∙ e))
 
   no-map : {A : Type 0} (kvs : KeyValues) (cl : List Slice) → ValueAt s tb i (mapOf kvs cl) → Long → flatAt s tb i ≡ true → A
@@ -164,16 +145,16 @@ module _ (s tb : List ℕ) (i : ℕ) where
       row-plains s tb (i + word tb i 4) vs (i + 1) (subst (λ (x : List Slice). InsideAt s tb (i + word tb i 4) (i + 1) vs x) (one-closing vs cl e) h) (one-simple vs cl e)
 
   pub flat-plains : (v : TokenValue) → ValueAt s tb i v → Long → flatAt s tb i ≡ true → (j : ℕ) → i + 1 ≤ j → j < i + word tb i 4 → Plain s tb j
-  unfolding sizeValue
+  unfolding valueSize
   flat-plains (identifier b) h l f = no-leaf (identifier b) h refl l
   flat-plains (number b) h l f = no-leaf (number b) h refl l
   flat-plains (quotedString b) h l f = no-leaf (quotedString b) h refl l
   flat-plains (listOf vs cl) h l f =
-      let g = list-inside vs cl h in
+      let g = list-inside s tb i vs cl h in
       inside-plains vs cl g (flat-one-line vs cl 4 g (value-kind s tb i (listOf vs cl) h) (λ z. omega arith) l f)
   flat-plains (mapOf kvs cl) h l f = no-map kvs cl h l f
   flat-plains (variantOf m vs cl) h l f =
-      let g = variant-inside m vs cl h in
+      let g = variant-inside s tb i m vs cl h in
       inside-plains vs cl g (flat-one-line vs cl 6 g (value-kind s tb i (variantOf m vs cl) h) (λ z. omega arith) l f)
 
   pub flat-not-map : (v : TokenValue) → ValueAt s tb i v → Long → flatAt s tb i ≡ true → word tb i 0 ≡ 5 → ⊥
@@ -187,12 +168,12 @@ module _ (s tb : List ℕ) (i : ℕ) where
 
     pub flat-list : (v : TokenValue) → ValueAt s tb i v → Long → flatAt s tb i ≡ true → word tb i 0 ≡ 4 →
         (91 ∷ []) ++ plainLine s tb (i + 1) (i + word tb i 4 - (i + 1)) ++ (93 ∷ []) ≡ value o n v
-    unfolding sizeValue
+    unfolding valueSize
     flat-list (identifier b) h l f e = no-leaf (identifier b) h refl l
     flat-list (number b) h l f e = no-leaf (number b) h refl l
     flat-list (quotedString b) h l f e = no-leaf (quotedString b) h refl l
     flat-list (listOf vs cl) h l f e =
-        let g = list-inside vs cl h in
+        let g = list-inside s tb i vs cl h in
         let q = flat-one-line vs cl 4 g e (λ z. omega arith) l f in
         ap (λ (x : List ℕ). (91 ∷ []) ++ x ++ (93 ∷ [])) (row-inside vs cl g q)
         ∙ list-row o n vs cl (more-list vs cl (λ z. l (value-size s tb i (listOf vs cl) h ∙ z))) q
@@ -201,14 +182,14 @@ module _ (s tb : List ℕ) (i : ℕ) where
 
     pub flat-variant : (v : TokenValue) → ValueAt s tb i v → Long → flatAt s tb i ≡ true → (word tb i 0 ≡ 4 → ⊥) →
         textAt s tb i ++ ((40 ∷ []) ++ plainLine s tb (i + 1) (i + word tb i 4 - (i + 1)) ++ (41 ∷ [])) ≡ value o n v
-    unfolding sizeValue
+    unfolding valueSize
     flat-variant (identifier b) h l f e = no-leaf (identifier b) h refl l
     flat-variant (number b) h l f e = no-leaf (number b) h refl l
     flat-variant (quotedString b) h l f e = no-leaf (quotedString b) h refl l
     flat-variant (listOf vs cl) h l f e = absurd (e (value-kind s tb i (listOf vs cl) h))
     flat-variant (mapOf kvs cl) h l f e = no-map kvs cl h l f
     flat-variant (variantOf m vs cl) h l f e =
-        let g = variant-inside m vs cl h in
+        let g = variant-inside s tb i m vs cl h in
         let q = flat-one-line vs cl 6 g (value-kind s tb i (variantOf m vs cl) h) (λ z. omega arith) l f in
         let name : textAt s tb i ≡ m .bytes = unfold ValueAt in h .4 in
         ap (λ (x : List ℕ). textAt s tb i ++ ((40 ∷ []) ++ x ++ (41 ∷ []))) (row-inside vs cl g q)

@@ -1,5 +1,5 @@
 -- From the long forms to the definition.
-use mathlib.Core.Path.{_≡_, refl, sym, ap, _∙_, subst}
+use mathlib.Core.Path.{_≡_, refl, sym, ap, _∙_}
 use mathlib.Core.Bool.{Bool, true, false, _&&_, cond}
 use mathlib.Core.List.{List, [], _∷_, _++_, append-assoc}
 use Prim.Native.Nat.{ℕ, zero, suc, _+_, _-_, _≤_, _<_}
@@ -13,14 +13,18 @@ use Rattle.eon_spec.specs.Base.{codes}
 use Rattle.eon_spec.specs.Tree.{Slice, TokenTree, TokenValue, TokenTrees, KeyValues, tree, identifier, number, quotedString, listOf, mapOf, variantOf, noTrees, _∷ᵗ_, noPairs, pair}
 use Rattle.eon_spec.specs.Layout.{Settings, mapContent, isEmpty, noValues, noKeyValues, onOneLine, value, bareValue, prefixOf, suffixOf, closing, indentedValue, addIndent, indentedComments, suffixComment, isSoleContainer, isContainer, shared, sharedFirst}
 use Rattle.eon_format.specs.Flat.{flatAt}
-use Rattle.eon_format.specs.Tabled.{PairedAt, closingLines, SomeList, SomeMap, SomeVariant, word, Within, textAt, ValueAt, PairsAt, InsideAt, sizeTree, sizeValue, sizeTrees, sizePairs}
+use Rattle.eon_format.specs.Lines.{closingLines}
 use Rattle.eon_format.proofs.Records.{closing-comments, clash, flat-one, flat-more}
 use Rattle.eon_format.specs.Put.{Wrote}
 use Rattle.eon_format.proofs.Writing.{wrote-as, wrote-then}
-use Rattle.eon_format.proofs.Trees.{never, kindOf, tree-pos, value-kind, value-size, one-line-law}
+use Rattle.eon_format.proofs.Trees.{never, one-line-law}
 use Rattle.eon_format.specs.Long.{longList, longMap, longVariant, pairText, blankAt}
-use Rattle.eon_format.proofs.Rows.{more-list, more-map, list-inside, variant-inside}
-use Rattle.eon_format.proofs.Walk.{valueOf, paired-end, paired-closing, paired-empty}
+use Rattle.eon_format.proofs.Rows.{more-list, more-map}
+use Rattle.eon_format.proofs.Walk.{paired-empty}
+use Rattle.eon_table.specs.Words.{word, Within, textAt}
+use Rattle.eon_table.specs.TreeAt.{PairedAt, SomeList, SomeMap, SomeVariant, ValueAt, InsideAt, kindOf, valueOf}
+use Rattle.eon_laws.proofs.Records.{treeSize, valueSize, treesSize, pairsSize}
+use Rattle.eon_table.proofs.Walk.{tree-pos, value-kind, value-size, list-inside, variant-inside, paired-end, paired-closing}
 
 pub indented-law : (o : Settings) (n : ℕ) (t : TokenTree) → indentedComments o n (prefixOf t) ++ addIndent o n ++ value o n (valueOf t) ++ suffixComment o (suffixOf t) ≡ indentedValue o n t
 unfolding indentedValue
@@ -59,17 +63,17 @@ module _ (o : Settings) (n : ℕ) where
   unfolding shared
   shared-map kvs cl p = rw (p, shared)
 
-  blank-list : (vs : TokenTrees) (cl : List Slice) → 1 + sizeTrees vs + length cl ≡ 1 → codes "[ ]" ≡ shared o n (listOf vs cl)
-  unfolding shared sizeTrees
+  blank-list : (vs : TokenTrees) (cl : List Slice) → 1 + (treesSize vs + length cl) ≡ 1 → codes "[ ]" ≡ shared o n (listOf vs cl)
+  unfolding shared treesSize
   blank-list noTrees [] e = refl
   blank-list noTrees (c ∷ cs) e = absurd (omega arith)
-  blank-list (t ∷ᵗ ts) cl e = let p : 1 ≤ sizeTree t = tree-pos t in absurd (omega arith)
+  blank-list (t ∷ᵗ ts) cl e = let p : 1 ≤ treeSize t = tree-pos t in absurd (omega arith)
 
-  blank-map : (kvs : KeyValues) (cl : List Slice) → 1 + sizePairs kvs + length cl ≡ 1 → codes "{ }" ≡ shared o n (mapOf kvs cl)
-  unfolding shared sizePairs
+  blank-map : (kvs : KeyValues) (cl : List Slice) → 1 + (pairsSize kvs + length cl) ≡ 1 → codes "{ }" ≡ shared o n (mapOf kvs cl)
+  unfolding shared pairsSize
   blank-map noPairs [] e = refl
   blank-map noPairs (c ∷ cs) e = absurd (omega arith)
-  blank-map (pair k v kvs) cl e = let p : 1 ≤ sizeTree k = tree-pos k in absurd (omega arith)
+  blank-map (pair k v kvs) cl e = let p : 1 ≤ treeSize k = tree-pos k in absurd (omega arith)
 
 module _ (s tb : List ℕ) (i : ℕ) where
   -- ---- what stands at a record of a kind
@@ -96,11 +100,11 @@ module _ (s tb : List ℕ) (i : ℕ) where
   pub not-flat : flatAt s tb i ≡ false → word tb i 4 ≡ 1 → ⊥
   not-flat f e = clash (flatAt s tb i) (sym (flat-one s tb i e)) f
 
-  no-leaf : {A : Type 0} (v : TokenValue) → ValueAt s tb i v → sizeValue v ≡ 1 → flatAt s tb i ≡ false → A
+  no-leaf : {A : Type 0} (v : TokenValue) → ValueAt s tb i v → valueSize v ≡ 1 → flatAt s tb i ≡ false → A
   no-leaf v h e f = absurd (not-flat f (value-size s tb i v h ∙ e))
 
   pub value-variant : (v : TokenValue) → ValueAt s tb i v → flatAt s tb i ≡ false → (word tb i 0 ≡ 4 → ⊥) → (word tb i 0 ≡ 5 → ⊥) → SomeVariant s tb i
-  unfolding sizeValue
+  unfolding valueSize
   value-variant (identifier b) h f d e = no-leaf (identifier b) h refl f
   value-variant (number b) h f d e = no-leaf (number b) h refl f
   value-variant (quotedString b) h f d e = no-leaf (quotedString b) h refl f
@@ -112,15 +116,15 @@ module _ (s tb : List ℕ) (i : ℕ) where
   not-line vs cl k h e a f = one-line-law s tb (i + word tb i 4) (i + 1) vs cl h ∙ flat-more s tb i (not-flat f) (λ z. a (sym e ∙ z)) ∙ f
 
   pub full-list : (vs : TokenTrees) (cl : List Slice) → ValueAt s tb i (listOf vs cl) → (word tb i 4 ≡ 1 → ⊥) → (noValues vs && isEmpty cl) ≡ false
-  unfolding sizeValue
+  unfolding valueSize
   full-list vs cl h l = more-list vs cl (λ z. l (value-size s tb i (listOf vs cl) h ∙ z))
 
   pub full-map : (kvs : KeyValues) (cl : List Slice) → ValueAt s tb i (mapOf kvs cl) → (word tb i 4 ≡ 1 → ⊥) → (noKeyValues kvs && isEmpty cl) ≡ false
-  unfolding sizeValue
+  unfolding valueSize
   full-map kvs cl h l = more-map kvs cl (λ z. l (value-size s tb i (mapOf kvs cl) h ∙ z))
 
   pub full-variant : (m : Slice) (vs : TokenTrees) (cl : List Slice) → ValueAt s tb i (variantOf m vs cl) → (word tb i 4 ≡ 1 → ⊥) → (noValues vs && isEmpty cl) ≡ false
-  unfolding sizeValue
+  unfolding valueSize
   full-variant m vs cl h l = more-list vs cl (λ z. l (value-size s tb i (variantOf m vs cl) h ∙ z))
 
   pub variant-text : (m : Slice) (vs : TokenTrees) (cl : List Slice) → ValueAt s tb i (variantOf m vs cl) → textAt s tb i ≡ m .bytes
@@ -148,7 +152,7 @@ module _ (s tb : List ℕ) (i : ℕ) where
 
     pub variant-value : (v : TokenValue) → ValueAt s tb i v → flatAt s tb i ≡ false → (word tb i 0 ≡ 4 → ⊥) → (word tb i 0 ≡ 5 → ⊥) →
         ((m : Slice) (vs : TokenTrees) (cl : List Slice) → ValueAt s tb i (variantOf m vs cl) → Wrote live out at (value o n (variantOf m vs cl)) r out′) → Wrote live out at (value o n v) r out′
-    unfolding sizeValue
+    unfolding valueSize
     variant-value (identifier b) h f d e w = no-leaf (identifier b) h refl f
     variant-value (number b) h f d e w = no-leaf (number b) h refl f
     variant-value (quotedString b) h f d e w = no-leaf (quotedString b) h refl f
@@ -178,7 +182,7 @@ module _ (s tb : List ℕ) (i : ℕ) where
     -- ---- shared
 
     pub blank-value : (v : TokenValue) → ValueAt s tb i v → isContainer v ≡ true → word tb i 4 ≡ 1 → Wrote live out at (blankAt tb i) r out′ → Wrote live out at (shared o n v) r out′
-    unfolding sizeValue
+    unfolding valueSize
     blank-value (identifier b) h c e w = never c
     blank-value (number b) h c e w = never c
     blank-value (quotedString b) h c e w = never c
@@ -218,15 +222,6 @@ module _ (s tb : List ℕ) (i : ℕ) where
   pub variant-within : (m : Slice) (vs : TokenTrees) (cl : List Slice) → ValueAt s tb i (variantOf m vs cl) → Within s tb i
   unfolding ValueAt
   variant-within m vs cl h = h .3
-
-  pub map-inside : (kvs : KeyValues) (cl : List Slice) → ValueAt s tb i (mapOf kvs cl) → PairedAt s tb (i + word tb i 4) (i + 1) kvs cl
-  unfolding ValueAt sizeValue
-  map-inside kvs cl h =
-      let e : word tb i 4 ≡ 1 + sizePairs kvs + length cl = h .0 .isSize in
-      record { pairs = subst (λ (m : ℕ). PairsAt s tb (i + m) (i + 1) kvs) (sym e) (h .1); closing = h .2; all = omega arith }
-
-  pub map-pairs : (w : ℕ) → w ≡ word tb i 4 → (kvs : KeyValues) (cl : List Slice) → ValueAt s tb i (mapOf kvs cl) → PairedAt s tb (i + w) (i + 1) kvs cl
-  map-pairs w e kvs cl h = subst (λ (x : ℕ). PairedAt s tb (i + x) (i + 1) kvs cl) (sym e) (map-inside kvs cl h)
 
 -- the closing comments after a map's pairs
 pub paired-closed : (s tb : List ℕ) (end : ℕ) (o : Settings) (n j base : ℕ) (kvs : KeyValues) (cl : List Slice) → PairedAt s tb end base kvs cl → PairedAt s tb end j noPairs cl →

@@ -1,98 +1,35 @@
 -- The steps of the walk.
 use mathlib.Core.Path.{_≡_, refl, sym, ap, _∙_, subst}
-use mathlib.Core.Bool.{Bool, true, false, _&&_, not}
-use mathlib.Core.Option.{Option, none, some}
+use mathlib.Core.Bool.{Bool, true, false, _&&_}
 use mathlib.Core.Logic.{_⊎_, inl, inr, ⊎-elim}
 use mathlib.Core.List.{List, [], _∷_, _++_, append-assoc}
 use Prim.Native.Nat.{ℕ, suc, _+_, _-_, _≤_, _<_}
 use native.Mathlib.Omega.{arith}
-use native.Mathlib.Nat.{add-zero}
 use native.Mathlib.Numerals.{add-one}
-use native.Mathlib.Decide.{decLt}
-use lib.ListN.{length, List·getD-eq-default}
-use lib.Dec.{ltb, eqb}
-use borrow.Author.Tests.{lt-ltb, le-ltb, eq-eqb, ne-eqb, ltb-true}
+use lib.ListN.{length}
+use lib.Dec.{eqb}
+use borrow.Author.Tests.{eq-eqb, ne-eqb}
 use Rattle.eon_spec.specs.Tree.{Slice, TokenTree, TokenValue, TokenTrees, KeyValues, tree, identifier, number, quotedString, listOf, mapOf, variantOf, noTrees, _∷ᵗ_, noPairs, pair}
 use Rattle.eon_spec.specs.Layout.{Settings, isEmpty, noValues, noKeyValues, bareValue, prefixOf, suffixOf, gap, lineEnds, closing, indentedValue, listContent, mapContent, addIndent, indentedComments, suffixComment, isSoleContainer, isContainer, shared, sharedTree, sharedFirst}
-use Rattle.eon_format.specs.Tabled.{moreAt, gapAt, AfterPrefix, lines, closingLines, Texts, PairedAt, SomeTree, word, hasSuffix, SuffixAt, CommentsAt, TreeAt, ValueAt, PairsAt, InsideAt, sizeSuffix, sizeTree, sizeValue, sizeTrees, sizePairs}
-use Rattle.eon_format.proofs.Records.{clash, lines-comments, comments-texts, closing-comments, prefix-ends}
+use Rattle.eon_format.specs.Lines.{gapAt, lines, closingLines}
+use Rattle.eon_format.proofs.Records.{clash, lines-comments, closing-comments}
 use Rattle.eon_format.specs.Put.{Wrote}
 use Rattle.eon_format.proofs.Writing.{wrote-then, wrote-as, Going, going-from, going-step, going-end}
-use Rattle.eon_format.proofs.Trees.{never, and-left, kindOf, value-pos, tree-pos, value-kind, value-size, value-not, bare-value, inside-next, inside-tree, inside-in, inside-closing, inside-end, tree-not-closing}
-use Rattle.eon_format.specs.Long.{pairText, PairAt, SomePair, Found}
-
-abbrev pub valueOf : TokenTree → TokenValue
-valueOf (tree sp p v x) = v
-
-pub word-pos : (tb : List ℕ) (i k : ℕ) → 0 < word tb i k → i < length tb
-word-pos tb i k h = go (decLt i (length tb))
-  where
-    go : Dec (i < length tb) → i < length tb
-    go (yes d) = d
-    go (no d) = let z : word tb i k ≡ 0 = List·getD-eq-default tb 0 (omega arith) in absurd (omega arith)
+use Rattle.eon_format.proofs.Trees.{never}
+use Rattle.eon_format.specs.Long.{pairText, Found}
+use Rattle.eon_table.specs.Words.{moreAt, AfterPrefix, Texts, word}
+use Rattle.eon_table.specs.TreeAt.{PairedAt, SomeTree, CommentsAt, TreeAt, InsideAt, kindOf, PairAt, SomePair, valueOf}
+use Rattle.eon_laws.proofs.Records.{treeSize, treesSize, pairsSize}
+use Rattle.eon_table.proofs.Walk.{comments-texts, tree-pos, value-kind, value-not, bare-value, inside-next, inside-tree, inside-in, inside-closing, inside-end, tree-not-closing, tree-head, tree-value, paired-first, paired-end, more-none, more-tree, no-more, one-more, paired-next}
 
 module _ (s tb : List ℕ) where
-  pub value-in : (i : ℕ) (v : TokenValue) → ValueAt s tb i v → i < length tb
-  value-in i v h =
-      let e : word tb i 4 ≡ sizeValue v = value-size s tb i v h in
-      let p : 1 ≤ sizeValue v = value-pos v in
-      word-pos tb i 4 (omega arith)
-
-  -- ---- a tree's parts
-
   module _ (end i r : ℕ) where
-    pub tree-head : (t : TokenTree) → TreeAt s tb end i t → AfterPrefix tb i r → r ≡ i + length (prefixOf t)
-    unfolding TreeAt
-    tree-head (tree sp p v x) h a = prefix-ends s tb i r p (h .0) (value-not s tb (i + length p) v (h .1)) a
-
-    pub tree-value : (t : TokenTree) → TreeAt s tb end i t → AfterPrefix tb i r → ValueAt s tb r (valueOf t)
-    unfolding TreeAt
-    tree-value (tree sp p v x) h a = subst (λ (j : ℕ). ValueAt s tb j v) (sym (tree-head (tree sp p v x) h a)) (h .1)
-
-    pub tree-suffix : (t : TokenTree) → TreeAt s tb end i t → AfterPrefix tb i r → SuffixAt s tb end (r + word tb r 4) (suffixOf t)
-    unfolding TreeAt
-    tree-suffix (tree sp p v x) h a =
-        let e : r ≡ i + length p = tree-head (tree sp p v x) h a in
-        let q : word tb r 4 ≡ sizeValue v = value-size s tb r v (tree-value (tree sp p v x) h a) in
-        subst (λ (j : ℕ). SuffixAt s tb end j x) (omega arith) (h .2)
-
-    pub tree-texts : (t : TokenTree) → TreeAt s tb end i t → AfterPrefix tb i r → Texts s tb i r
-    unfolding TreeAt
-    tree-texts (tree sp p v x) h a = subst (λ (j : ℕ). Texts s tb i j) (sym (tree-head (tree sp p v x) h a)) (comments-texts s tb 7 i p (h .0))
-
     pub tree-lines : (o : Settings) (n : ℕ) (t : TokenTree) → TreeAt s tb end i t → AfterPrefix tb i r → lines s tb o n i (r - i) ≡ indentedComments o n (prefixOf t)
     unfolding TreeAt
     tree-lines o n (tree sp p v x) h a =
-        let e : r ≡ i + length p = tree-head (tree sp p v x) h a in
+        let e : r ≡ i + length p = tree-head s tb end i r (tree sp p v x) h a in
         let q : r - i ≡ length p = omega arith in
         ap (lines s tb o n i) q ∙ lines-comments s tb o n 7 i p (h .0)
-
-    tree-size : (t : TokenTree) → TreeAt s tb end i t → AfterPrefix tb i r → r + word tb r 4 + sizeSuffix (suffixOf t) ≡ i + sizeTree t
-    unfolding TreeAt sizeTree
-    tree-size (tree sp p v x) h a =
-        let e : r ≡ i + length p = tree-head (tree sp p v x) h a in
-        let q : word tb r 4 ≡ sizeValue v = value-size s tb r v (tree-value (tree sp p v x) h a) in
-        omega arith
-
-    suffix-one : (j : ℕ) (x : Option Slice) → SuffixAt s tb end j x → hasSuffix tb end j ≡ true → sizeSuffix x ≡ 1
-    suffix-one j none h e = clash (hasSuffix tb end j) e h
-    suffix-one j (some c) h e = refl
-
-    suffix-zero : (j : ℕ) (x : Option Slice) → SuffixAt s tb end j x → hasSuffix tb end j ≡ false → sizeSuffix x ≡ 0
-    suffix-zero j none h e = refl
-    suffix-zero j (some c) h e = clash (hasSuffix tb end j) (h .0) e
-
-    pub next-suffix : (t : TokenTree) → TreeAt s tb end i t → AfterPrefix tb i r → hasSuffix tb end (r + word tb r 4) ≡ true → r + word tb r 4 + 1 ≡ i + sizeTree t
-    next-suffix t h a e =
-        let q : sizeSuffix (suffixOf t) ≡ 1 = suffix-one (r + word tb r 4) (suffixOf t) (tree-suffix t h a) e in
-        let z : r + word tb r 4 + sizeSuffix (suffixOf t) ≡ i + sizeTree t = tree-size t h a in
-        omega arith
-
-    pub next-bare : (t : TokenTree) → TreeAt s tb end i t → AfterPrefix tb i r → hasSuffix tb end (r + word tb r 4) ≡ false → r + word tb r 4 ≡ i + sizeTree t
-    next-bare t h a e =
-        let q : sizeSuffix (suffixOf t) ≡ 0 = suffix-zero (r + word tb r 4) (suffixOf t) (tree-suffix t h a) e in
-        let z : r + word tb r 4 + sizeSuffix (suffixOf t) ≡ i + sizeTree t = tree-size t h a in
-        omega arith
 
   pub tree-gap : (o : Settings) (end i : ℕ) (first : Bool) (t : TokenTree) → TreeAt s tb end i t → gapAt o tb first i ≡ gap o first t
   tree-gap o end i true (tree sp p v x) h = refl
@@ -115,35 +52,7 @@ gap-none o tb false i e f = rw (ne-eqb (word tb i 0) 7 f, gapAt)
 
 -- ---- items of a list
 
-more-off : (tb : List ℕ) (end j : ℕ) → end ≤ j → moreAt tb end j ≡ false
-unfolding moreAt
-more-off tb end j h = ap (λ (x : Bool). x && not (eqb (word tb j 0) 9)) (le-ltb j end h)
-
-more-nine : (tb : List ℕ) (end j : ℕ) → word tb j 0 ≡ 9 → moreAt tb end j ≡ false
-unfolding moreAt
-more-nine tb end j h = ap (λ (x : Bool). ltb j end && not x) (eq-eqb (word tb j 0) 9 h) ∙ off (ltb j end)
-  where
-    off : (b : Bool) → (b && false) ≡ false
-    off true = refl
-    off false = refl
-
-pub more-in : (tb : List ℕ) (end j : ℕ) → moreAt tb end j ≡ true → j < end
-unfolding moreAt
-more-in tb end j h = ltb-true j end (and-left (ltb j end) (not (eqb (word tb j 0) 9)) h)
-
 module _ (s tb : List ℕ) (end : ℕ) where
-  more-closing : (j : ℕ) (cl : List Slice) → CommentsAt s tb 9 j cl → end ≡ j + length cl → moreAt tb end j ≡ false
-  more-closing j [] h e = more-off tb end j (omega arith)
-  more-closing j (c ∷ cs) h e = more-nine tb end j (h .0 .isKind)
-
-  more-none : (j : ℕ) (cl : List Slice) → InsideAt s tb end j noTrees cl → moreAt tb end j ≡ false
-  more-none j cl h = more-closing j cl (inside-closing s tb end j cl h) (inside-end s tb end j cl h)
-
-  more-tree : (j : ℕ) (t : TokenTree) → TreeAt s tb end j t → j < end → moreAt tb end j ≡ true
-  unfolding moreAt
-  more-tree j t h l =
-      ap (λ (x : Bool). x && not (eqb (word tb j 0) 9)) (lt-ltb j end l) ∙ ap not (ne-eqb (word tb j 0) 9 (tree-not-closing s tb end j t h))
-
   -- what a walk through a container's values has done
   pub record Through (live : Bool) (out₀ : List ℕ) (at₀ : ℕ) (total : List ℕ) (content : Bool → TokenTrees → List ℕ) (cl : List Slice) (base j at : ℕ) (out : List ℕ) : Type 0 where
     pub ts : TokenTrees
@@ -155,23 +64,23 @@ module _ (s tb : List ℕ) (end : ℕ) where
     through-tree h m = go (h .ts) (h .inside)
       where
         go : (ts : TokenTrees) → InsideAt s tb end j ts cl → SomeTree s tb end j
-        go noTrees a = clash (moreAt tb end j) m (more-none j cl a)
+        go noTrees a = clash (moreAt tb end j) m (more-none s tb end j cl a)
         go (t ∷ᵗ ts) a = (t, inside-tree s tb end j t ts cl a)
 
     pub through-step : {at′ : ℕ} {out′ : List ℕ} (j′ : ℕ) (body : Bool → TokenTree → List ℕ) →
         ((b : Bool) (t : TokenTree) (ts : TokenTrees) → content b (t ∷ᵗ ts) ≡ body b t ++ content false ts) →
         Through live out₀ at₀ total content cl base j at out → moreAt tb end j ≡ true → base ≤ j →
         ((t : TokenTree) → TreeAt s tb end j t → Wrote live out at (body (eqb j base) t) at′ out′) →
-        ((t : TokenTree) → TreeAt s tb end j t → j′ ≡ j + sizeTree t) →
+        ((t : TokenTree) → TreeAt s tb end j t → j′ ≡ j + treeSize t) →
         Through live out₀ at₀ total content cl base j′ at′ out′
     through-step {at′} {out′} j′ body law h m l w e = go (h .ts) (h .inside) (h .going)
       where
         go : (ts : TokenTrees) → InsideAt s tb end j ts cl → Going live out₀ at₀ total at out (content (eqb j base) ts) → Through live out₀ at₀ total content cl base j′ at′ out′
-        go noTrees a g = clash (moreAt tb end j) m (more-none j cl a)
+        go noTrees a g = clash (moreAt tb end j) m (more-none s tb end j cl a)
         go (t ∷ᵗ ts) a g =
             let k = inside-tree s tb end j t ts cl a in
-            let q : j′ ≡ j + sizeTree t = e t k in
-            let p : 1 ≤ sizeTree t = tree-pos t in
+            let q : j′ ≡ j + treeSize t = e t k in
+            let p : 1 ≤ treeSize t = tree-pos t in
             record {
               ts = ts;
               inside = subst (λ (x : ℕ). InsideAt s tb end x ts cl) (sym q) (inside-next s tb end j t ts cl a);
@@ -183,14 +92,14 @@ module _ (s tb : List ℕ) (end : ℕ) where
       where
         go : (ts : TokenTrees) → InsideAt s tb end j ts cl → InsideAt s tb end j noTrees cl
         go noTrees a = a
-        go (t ∷ᵗ ts) a = clash (moreAt tb end j) (more-tree j t (inside-tree s tb end j t ts cl a) (inside-in s tb end j t ts cl a)) m
+        go (t ∷ᵗ ts) a = clash (moreAt tb end j) (more-tree s tb end j t (inside-tree s tb end j t ts cl a) (inside-in s tb end j t ts cl a)) m
 
     pub through-end : Through live out₀ at₀ total content cl base j at out → moreAt tb end j ≡ false → ((b : Bool) → content b noTrees ≡ []) → Wrote live out₀ at₀ total at out
     through-end h m e = go (h .ts) (h .inside) (h .going)
       where
         go : (ts : TokenTrees) → InsideAt s tb end j ts cl → Going live out₀ at₀ total at out (content (eqb j base) ts) → Wrote live out₀ at₀ total at out
         go noTrees a g = going-end g (e (eqb j base))
-        go (t ∷ᵗ ts) a g = clash (moreAt tb end j) (more-tree j t (inside-tree s tb end j t ts cl a) (inside-in s tb end j t ts cl a)) m
+        go (t ∷ᵗ ts) a g = clash (moreAt tb end j) (more-tree s tb end j t (inside-tree s tb end j t ts cl a) (inside-in s tb end j t ts cl a)) m
 
   pub through-start : {live : Bool} {out₀ : List ℕ} {at₀ : ℕ} {b : List ℕ} {at : ℕ} {out : List ℕ} (content : Bool → TokenTrees → List ℕ) (vs : TokenTrees) (cl : List Slice) (base : ℕ) →
       InsideAt s tb end base vs cl → Wrote live out₀ at₀ b at out → Through live out₀ at₀ (b ++ content true vs) content cl base base at out
@@ -202,15 +111,15 @@ module _ (s tb : List ℕ) (end : ℕ) where
       }
 
   pub through-empty : (base j : ℕ) (vs : TokenTrees) (cl : List Slice) → InsideAt s tb end base vs cl → InsideAt s tb end j noTrees cl → eqb j base ≡ noValues vs
-  unfolding sizeTrees
+  unfolding treesSize
   through-empty base j noTrees cl h a =
       let p : end ≡ j + length cl = inside-end s tb end j cl a in
       let q : end ≡ base + length cl = inside-end s tb end base cl h in
       eq-eqb j base (omega arith)
   through-empty base j (t ∷ᵗ ts) cl h a =
       let p : end ≡ j + length cl = inside-end s tb end j cl a in
-      let q : end ≡ base + (sizeTree t + sizeTrees ts) + length cl = h .all in
-      let l : 1 ≤ sizeTree t = tree-pos t in
+      let q : end ≡ base + (treeSize t + treesSize ts) + length cl = h .all in
+      let l : 1 ≤ treeSize t = tree-pos t in
       ne-eqb j base (λ z. omega arith)
 
   -- the closing comments, the indentation and the bracket after the items
@@ -270,12 +179,12 @@ module _ (s tb : List ℕ) (end i : ℕ) where
   sole-nine noTrees cl h e = and-off (isEmpty cl)
   sole-nine (t ∷ᵗ ts) cl h e = absurd (tree-not-closing s tb end i t (inside-tree s tb end i t ts cl h) e)
 
-  pub sole-more : (r : ℕ) (vs : TokenTrees) (cl : List Slice) → InsideAt s tb end i vs cl → ((t : TokenTree) → TreeAt s tb end i t → r ≡ i + sizeTree t) → (r ≡ end → ⊥) → (isEmpty cl && isSoleContainer vs) ≡ false
-  unfolding sizeTrees
+  pub sole-more : (r : ℕ) (vs : TokenTrees) (cl : List Slice) → InsideAt s tb end i vs cl → ((t : TokenTree) → TreeAt s tb end i t → r ≡ i + treeSize t) → (r ≡ end → ⊥) → (isEmpty cl && isSoleContainer vs) ≡ false
+  unfolding treesSize
   sole-more r noTrees cl h f e = and-off (isEmpty cl)
   sole-more r (t ∷ᵗ noTrees) [] h f e =
-      let q : r ≡ i + sizeTree t = f t (inside-tree s tb end i t noTrees [] h) in
-      let z : end ≡ i + (sizeTree t + 0) + 0 = h .all in
+      let q : r ≡ i + treeSize t = f t (inside-tree s tb end i t noTrees [] h) in
+      let z : end ≡ i + (treeSize t + 0) + 0 = h .all in
       absurd (e (omega arith))
   sole-more r (t ∷ᵗ noTrees) (c ∷ cs) h f e = refl
   sole-more r (t ∷ᵗ (u ∷ᵗ us)) cl h f e = and-off (isEmpty cl)
@@ -287,9 +196,9 @@ module _ (s tb : List ℕ) (end i : ℕ) where
       ap (λ (x : Bool). isEmpty cl && x) (sole-tree t ∙ kind-other (valueOf t) (λ z. e (k ∙ z)) (λ z. f (k ∙ z))) ∙ and-off (isEmpty cl)
   sole-other c (t ∷ᵗ (u ∷ᵗ us)) cl h a e f = and-off (isEmpty cl)
 
-  pub sole-found : (r c : ℕ) (vs : TokenTrees) (cl : List Slice) → InsideAt s tb end i vs cl → i < end → ((t : TokenTree) → TreeAt s tb end i t → r ≡ i + sizeTree t) → r ≡ end → (word tb i 0 ≡ 9 → ⊥) →
+  pub sole-found : (r c : ℕ) (vs : TokenTrees) (cl : List Slice) → InsideAt s tb end i vs cl → i < end → ((t : TokenTree) → TreeAt s tb end i t → r ≡ i + treeSize t) → r ≡ end → (word tb i 0 ≡ 9 → ⊥) →
       AfterPrefix tb i c → ((word tb c 0 ≡ 4) ⊎ (word tb c 0 ≡ 5)) → Found s tb i vs cl c
-  unfolding sizeTrees
+  unfolding treesSize
   sole-found r c noTrees [] h l f e g a k = let z : end ≡ i + 0 = inside-end s tb end i [] h in absurd (omega arith)
   sole-found r c noTrees (x ∷ xs) h l f e g a k = absurd (g (inside-closing s tb end i (x ∷ xs) h .0 .isKind))
   sole-found r c (t ∷ᵗ noTrees) [] h l f e g a k =
@@ -305,13 +214,13 @@ module _ (s tb : List ℕ) (end i : ℕ) where
         shares = shared-tree t;
       }
   sole-found r c (t ∷ᵗ noTrees) (x ∷ xs) h l f e g a k =
-      let q : r ≡ i + sizeTree t = f t (inside-tree s tb end i t noTrees (x ∷ xs) h) in
-      let z : end ≡ i + (sizeTree t + 0) + suc (length xs) = h .all in
+      let q : r ≡ i + treeSize t = f t (inside-tree s tb end i t noTrees (x ∷ xs) h) in
+      let z : end ≡ i + (treeSize t + 0) + suc (length xs) = h .all in
       absurd (omega arith)
   sole-found r c (t ∷ᵗ (u ∷ᵗ us)) cl h l f e g a k =
-      let q : r ≡ i + sizeTree t = f t (inside-tree s tb end i t (u ∷ᵗ us) cl h) in
-      let z : end ≡ i + (sizeTree t + (sizeTree u + sizeTrees us)) + length cl = h .all in
-      let p : 1 ≤ sizeTree u = tree-pos u in
+      let q : r ≡ i + treeSize t = f t (inside-tree s tb end i t (u ∷ᵗ us) cl h) in
+      let z : end ≡ i + (treeSize t + (treeSize u + treesSize us)) + length cl = h .all in
+      let p : 1 ≤ treeSize u = tree-pos u in
       absurd (omega arith)
 
   pub inside-some : (vs : TokenTrees) (cl : List Slice) → InsideAt s tb end i vs cl → i < end → (word tb i 0 ≡ 9 → ⊥) → SomeTree s tb end i
@@ -328,43 +237,6 @@ ends-body o b t ts = refl
 -- ---- items of a map
 
 module _ (s tb : List ℕ) (end : ℕ) where
-  pub paired-first : (i : ℕ) (k v : TokenTree) (ts : KeyValues) (cl : List Slice) → PairedAt s tb end i (pair k v ts) cl → PairAt s tb end i k v
-  unfolding PairsAt
-  paired-first i k v ts cl h = record { key = h .pairs .0; val = h .pairs .1 }
-
-  paired-next : (i : ℕ) (k v : TokenTree) (ts : KeyValues) (cl : List Slice) → PairedAt s tb end i (pair k v ts) cl → PairedAt s tb end (i + sizeTree k + sizeTree v) ts cl
-  unfolding PairsAt sizePairs
-  paired-next i k v ts cl h =
-      record {
-        pairs = h .pairs .2;
-        closing = subst (λ (j : ℕ). CommentsAt s tb 9 j cl) (omega arith) (h .closing);
-        all = let e : end ≡ i + (sizeTree k + sizeTree v + sizePairs ts) + length cl = h .all in omega arith;
-      }
-
-  paired-in : (i : ℕ) (k v : TokenTree) (ts : KeyValues) (cl : List Slice) → PairedAt s tb end i (pair k v ts) cl → i < end
-  unfolding sizePairs
-  paired-in i k v ts cl h =
-      let e : end ≡ i + (sizeTree k + sizeTree v + sizePairs ts) + length cl = h .all in
-      let p : 1 ≤ sizeTree k = tree-pos k in
-      omega arith
-
-  pub paired-closing : (i : ℕ) (cl : List Slice) → PairedAt s tb end i noPairs cl → CommentsAt s tb 9 i cl
-  unfolding sizePairs
-  paired-closing i cl h = subst (λ (j : ℕ). CommentsAt s tb 9 j cl) (add-zero i) (h .closing)
-
-  pub paired-end : (i : ℕ) (cl : List Slice) → PairedAt s tb end i noPairs cl → end ≡ i + length cl
-  unfolding sizePairs
-  paired-end i cl h = let e : end ≡ i + 0 + length cl = h .all in omega arith
-
-  pub paired-texts : (j : ℕ) (cl : List Slice) → PairedAt s tb end j noPairs cl → Texts s tb j end
-  paired-texts j cl h = subst (λ (k : ℕ). Texts s tb j k) (sym (paired-end j cl h)) (comments-texts s tb 9 j cl (paired-closing j cl h))
-
-  no-more : (j : ℕ) (cl : List Slice) → PairedAt s tb end j noPairs cl → moreAt tb end j ≡ false
-  no-more j cl h = more-closing s tb end j cl (paired-closing j cl h) (paired-end j cl h)
-
-  one-more : (j : ℕ) (k v : TokenTree) (ts : KeyValues) (cl : List Slice) → PairedAt s tb end j (pair k v ts) cl → moreAt tb end j ≡ true
-  one-more j k v ts cl h = more-tree s tb end j k (paired-first j k v ts cl h .key) (paired-in j k v ts cl h)
-
   -- what a walk through a map's pairs has done
   pub record Paired (live : Bool) (out₀ : List ℕ) (at₀ : ℕ) (total : List ℕ) (content : Bool → KeyValues → List ℕ) (cl : List Slice) (base j at : ℕ) (out : List ℕ) : Type 0 where
     pub ts : KeyValues
@@ -376,26 +248,26 @@ module _ (s tb : List ℕ) (end : ℕ) where
     paired-pair h m = go (h .ts) (h .inside)
       where
         go : (ts : KeyValues) → PairedAt s tb end j ts cl → SomePair s tb end j
-        go noPairs a = clash (moreAt tb end j) m (no-more j cl a)
-        go (pair k v ts) a = (k, v, paired-first j k v ts cl a)
+        go noPairs a = clash (moreAt tb end j) m (no-more s tb end j cl a)
+        go (pair k v ts) a = (k, v, paired-first s tb end j k v ts cl a)
 
     pub paired-step : {at′ : ℕ} {out′ : List ℕ} (j′ : ℕ) (body : Bool → TokenTree → TokenTree → List ℕ) →
         ((b : Bool) (k v : TokenTree) (ts : KeyValues) → content b (pair k v ts) ≡ body b k v ++ content false ts) →
         Paired live out₀ at₀ total content cl base j at out → moreAt tb end j ≡ true → base ≤ j →
         ((k v : TokenTree) → PairAt s tb end j k v → Wrote live out at (body (eqb j base) k v) at′ out′) →
-        ((k v : TokenTree) → PairAt s tb end j k v → j′ ≡ j + sizeTree k + sizeTree v) →
+        ((k v : TokenTree) → PairAt s tb end j k v → j′ ≡ j + treeSize k + treeSize v) →
         Paired live out₀ at₀ total content cl base j′ at′ out′
     paired-step {at′} {out′} j′ body law h m l w e = go (h .ts) (h .inside) (h .going)
       where
         go : (ts : KeyValues) → PairedAt s tb end j ts cl → Going live out₀ at₀ total at out (content (eqb j base) ts) → Paired live out₀ at₀ total content cl base j′ at′ out′
-        go noPairs a g = clash (moreAt tb end j) m (no-more j cl a)
+        go noPairs a g = clash (moreAt tb end j) m (no-more s tb end j cl a)
         go (pair x y ts) a g =
-            let k = paired-first j x y ts cl a in
-            let q : j′ ≡ j + sizeTree x + sizeTree y = e x y k in
-            let p : 1 ≤ sizeTree x = tree-pos x in
+            let k = paired-first s tb end j x y ts cl a in
+            let q : j′ ≡ j + treeSize x + treeSize y = e x y k in
+            let p : 1 ≤ treeSize x = tree-pos x in
             record {
               ts = ts;
-              inside = subst (λ (z : ℕ). PairedAt s tb end z ts cl) (sym q) (paired-next j x y ts cl a);
+              inside = subst (λ (z : ℕ). PairedAt s tb end z ts cl) (sym q) (paired-next s tb end j x y ts cl a);
               going = going-step g (law (eqb j base) x y ts ∙ ap (λ (z : Bool). body (eqb j base) x y ++ content z ts) (sym (ne-eqb j′ base (λ z. omega arith)))) (w x y k);
             }
 
@@ -404,14 +276,14 @@ module _ (s tb : List ℕ) (end : ℕ) where
       where
         go : (ts : KeyValues) → PairedAt s tb end j ts cl → PairedAt s tb end j noPairs cl
         go noPairs a = a
-        go (pair x y ts) a = clash (moreAt tb end j) (one-more j x y ts cl a) m
+        go (pair x y ts) a = clash (moreAt tb end j) (one-more s tb end j x y ts cl a) m
 
     pub paired-all : Paired live out₀ at₀ total content cl base j at out → moreAt tb end j ≡ false → ((b : Bool) → content b noPairs ≡ []) → Wrote live out₀ at₀ total at out
     paired-all h m e = go (h .ts) (h .inside) (h .going)
       where
         go : (ts : KeyValues) → PairedAt s tb end j ts cl → Going live out₀ at₀ total at out (content (eqb j base) ts) → Wrote live out₀ at₀ total at out
         go noPairs a g = going-end g (e (eqb j base))
-        go (pair x y ts) a g = clash (moreAt tb end j) (one-more j x y ts cl a) m
+        go (pair x y ts) a g = clash (moreAt tb end j) (one-more s tb end j x y ts cl a) m
 
   pub paired-start : {live : Bool} {out₀ : List ℕ} {at₀ : ℕ} {b : List ℕ} {at : ℕ} {out : List ℕ} (content : Bool → KeyValues → List ℕ) (vs : KeyValues) (cl : List Slice) (base : ℕ) →
       PairedAt s tb end base vs cl → Wrote live out₀ at₀ b at out → Paired live out₀ at₀ (b ++ content true vs) content cl base base at out
@@ -423,15 +295,15 @@ module _ (s tb : List ℕ) (end : ℕ) where
       }
 
   pub paired-empty : (base j : ℕ) (vs : KeyValues) (cl : List Slice) → PairedAt s tb end base vs cl → PairedAt s tb end j noPairs cl → eqb j base ≡ noKeyValues vs
-  unfolding sizePairs
+  unfolding pairsSize
   paired-empty base j noPairs cl h a =
-      let p : end ≡ j + length cl = paired-end j cl a in
-      let q : end ≡ base + length cl = paired-end base cl h in
+      let p : end ≡ j + length cl = paired-end s tb end j cl a in
+      let q : end ≡ base + length cl = paired-end s tb end base cl h in
       eq-eqb j base (omega arith)
   paired-empty base j (pair x y ts) cl h a =
-      let p : end ≡ j + length cl = paired-end j cl a in
-      let q : end ≡ base + (sizeTree x + sizeTree y + sizePairs ts) + length cl = h .all in
-      let l : 1 ≤ sizeTree x = tree-pos x in
+      let p : end ≡ j + length cl = paired-end s tb end j cl a in
+      let q : end ≡ base + (treeSize x + (treeSize y + pairsSize ts)) + length cl = h .all in
+      let l : 1 ≤ treeSize x = tree-pos x in
       ne-eqb j base (λ z. omega arith)
 
 -- ---- the contents

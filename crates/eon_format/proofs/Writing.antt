@@ -10,9 +10,11 @@ use borrow.Author.Tests.{ne-eqb}
 use native.Mathlib.Omega.{arith}
 use native.Mathlib.Nat.{add-zero, add-suc, suc-add}
 use native.Mathlib.Decide.{decLe}
-use lib.ListN.{length, take, drop, length-append, length-drop, set, getD, drop-of-length-le}
-use lib.Seq.{sets, length-sets, set-out, take-suc, getD-drop, drop-cons, take-nil, length-take-le, take-add}
-use Rattle.eon_format.specs.Put.{Wrote, written, part}
+use lib.ListN.{length, take, drop, length-append, length-drop, set, getD}
+use lib.Seq.{sets, length-sets, set-out, take-suc, getD-drop, drop-cons, length-take-le, take-add}
+use Rattle.eon_format.specs.Put.{Wrote, written}
+use Rattle.eon_table.specs.Words.{part}
+use Rattle.eon_table.proofs.Parts.{part-length, part-past}
 
 sets-append : (l : List ℕ) (i : ℕ) (b c : List ℕ) → sets l i (b ++ c) ≡ sets (sets l i b) (i + length b) c
 sets-append l i [] c = ap (λ (k : ℕ). sets l k c) (sym (add-zero i))
@@ -101,9 +103,6 @@ copy-more out s at from i h =
     let d : i < length (drop from s) = omega arith in
     let e : length (take i (drop from s)) ≡ i = length-take-le i (drop from s) (omega arith) in
     sym (rw (add-one, take-suc (drop from s) i 0 d, sets-append, e, getD-drop from s i 0) refl)
-
-pub part-length : (s : List ℕ) (from to : ℕ) → to ≤ length s → length (part s from to) ≡ to - from
-part-length s from to h = let l : length (drop from s) ≡ length s - from = length-drop from s in length-take-le (to - from) (drop from s) (omega arith)
 
 -- a part, measured and not written
 pub measured : {live : Bool} {out : List ℕ} {at : ℕ} {r : ℕ} (s : List ℕ) (from to : ℕ) → live ≡ false → to ≤ length s →
@@ -202,12 +201,6 @@ part-cons s j to h k =
     ∙ ap (λ (n : ℕ). take n (getD s j 0 ∷ drop (suc j) s)) e
     ∙ ap (λ (n : ℕ). getD s j 0 ∷ take (to - (j + 1)) (drop n s)) (sym (add-one j))
 
-pub part-past : (s : List ℕ) (j to : ℕ) → length s ≤ j → part s j to ≡ []
-part-past s j to h = ap (take (to - j)) (drop-of-length-le s h) ∙ take-nil (to - j)
-
-pub part-end : (s : List ℕ) (j to : ℕ) → to ≤ j → part s j to ≡ []
-part-end s j to h = let e : to - j ≡ 0 = omega arith in rw e
-
 -- a line feed in a part
 pub feed-here : (s : List ℕ) (j to : ℕ) → j < to → j < length s → getD s j 0 ≡ 10 → elem 10 (part s j to) ≡ true
 feed-here s j to h k e = ap (elem 10) (part-cons s j to h k) ∙ ap (λ (x : ℕ). elem 10 (x ∷ part s (j + 1) to)) e
@@ -216,4 +209,4 @@ pub feed-on : (s : List ℕ) (j to : ℕ) → j < to → j < length s → (getD 
 feed-on s j to h k e = ap (elem 10) (part-cons s j to h k) ∙ rw (ne-eqb 10 (getD s j 0) (λ q. e (sym q)))
 
 pub feed-past : (s : List ℕ) (j to : ℕ) → length s ≤ j → elem 10 (part s j to) ≡ elem 10 (part s (j + 1) to)
-feed-past s j to h = ap (elem 10) (part-past s j to h ∙ sym (part-past s (j + 1) to (omega arith)))
+feed-past s j to h = ap (elem 10) (sym (part-past s j to h) ∙ part-past s (j + 1) to (omega arith))

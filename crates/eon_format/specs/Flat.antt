@@ -5,7 +5,7 @@ use mathlib.Core.Bool.{Bool, true, false, not, cond}
 use mathlib.Core.List.{List, [], _++_}
 use lib.Dec.{ltb, eqb}
 use Rattle.eon_spec.specs.Base.{elem, codes}
-use Rattle.eon_format.specs.Tabled.{word, hasSuffix, textAt, Within}
+use Rattle.eon_table.specs.Words.{word, hasSuffix, textAt, Within}
 
 -- a comma and a blank, if record j is before `end`
 abbrev pub commaAt : ℕ → ℕ → List ℕ

@@ -1,6 +1,5 @@
 pub mod Put
 pub mod Options
-pub mod Tabled
+pub mod Lines
 pub mod Flat
 pub mod Long
-pub mod Spanned

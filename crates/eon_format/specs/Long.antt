@@ -7,7 +7,8 @@ use lib.Dec.{eqb}
 use Rattle.eon_spec.specs.Base.{codes}
 use Rattle.eon_spec.specs.Tree.{Slice, TokenTree, TokenValue, TokenTrees, KeyValues}
 use Rattle.eon_spec.specs.Layout.{Settings, addIndent, noValues, noKeyValues, onLines, lineEnds, listContent, mapContent, indentedComments, suffixComment, prefixOf, suffixOf, bareValue, shared, sharedFirst, isEmpty, isContainer, isSoleContainer}
-use Rattle.eon_format.specs.Tabled.{word, TreeAt, ValueAt, sizeTree}
+use Rattle.eon_table.specs.Words.{word}
+use Rattle.eon_table.specs.TreeAt.{ValueAt}
 
 abbrev pub longList : Settings → ℕ → TokenTrees → List Slice → List ℕ
 longList o n vs cl = onLines o n (codes "[") (listContent o (suc n) true vs) (noValues vs) cl (codes "]")
@@ -29,14 +30,6 @@ abbrev pub blankAt : List ℕ → ℕ → List ℕ
 blankAt tb i = cond (eqb (word tb i 0) 4) (codes "[ ]") (codes "{ }")
 
 module _ (s tb : List ℕ) where
-  -- a key and its value
-  pub record PairAt (end i : ℕ) (k v : TokenTree) : Type 0 where
-    pub key : TreeAt s tb end i k
-    pub val : TreeAt s tb end (i + sizeTree k) v
-
-  abbrev pub SomePair : ℕ → ℕ → Type 0
-  SomePair end i = (k : TokenTree) × (v : TokenTree) × PairAt end i k v
-
   -- a variant's sole list or map, at record r
   pub record Found (i : ℕ) (vs : TokenTrees) (cl : List Slice) (r : ℕ) : Type 0 where
     pub from : i ≤ r

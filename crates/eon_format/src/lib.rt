@@ -12,16 +12,23 @@ ghost use mathlib.Core.Bool.{true, false, cond};
 ghost use Rattle.eon_spec.specs.Base.{elem};
 ghost use Rattle.eon_spec.specs.Utf8.{isUtf8};
 ghost use Rattle.eon_format.specs.Flat.{commaAt, simpleAt, widthAt, oneLineAt, flatAt, plainAt, plainLine, Plain};
-ghost use Rattle.eon_format.specs.Long.{longList, longMap, longVariant, pairText, blankAt, PairAt, SomePair, SoleAt, SomeContainer};
+ghost use Rattle.eon_format.specs.Long.{longList, longMap, longVariant, pairText, blankAt, SoleAt, SomeContainer};
 ghost use Rattle.eon_spec.specs.Records.{treeRecords};
 ghost use Rattle.eon_spec.specs.Calls.{done, readFinished, goodSetting, goodSettings, formatCall, fill, after, outcomeOf};
-ghost use Rattle.eon_format.specs.Tabled.{moreAt, gapAt, SomeList, SomeMap, SomeVariant, SomeInside, TreeAt, ValueAt, SomeTree, SomeValue, InsideAt, sizeTree, word, hasSuffix, AfterPrefix, Within, textAt, Texts, lines, closingLines, SuffixAt};
-ghost use Rattle.eon_format.specs.Put.{Wrote, part};
+ghost use Rattle.eon_format.specs.Lines.{gapAt, lines, closingLines};
+ghost use Rattle.eon_format.specs.Put.{Wrote};
+ghost use Rattle.eon_table.specs.Words.{word, Within, textAt, Texts, part};
+ghost use Rattle.eon_table.specs.TreeAt.{PairAt, SomePair, SomeList, SomeMap, SomeVariant, SomeInside, TreeAt, ValueAt, SomeTree, SomeValue, InsideAt, SuffixAt};
 ghost use Rattle.eon_format.specs.Options.{Short};
 use eon_spec::Answer;
 use eon_spec::FormatOptions;
 use eon_spec::Refusal;
 use eon_spec::Setting;
+use eon_table::record::after_prefix;
+use eon_table::record::has_suffix;
+use eon_table::record::more;
+use eon_table::record::next_tree;
+use eon_table::record::word;
 
 // ---- the settings
 
@@ -152,50 +159,6 @@ fn add_indent(o: FormatOptions, n: usize, out: &mut [u8], live: bool, at: usize)
         k += 1;
     }
     at
-}
-
-// ---- the table
-
-fn wide(x: u32) -> usize
-    ensures { λ r. ⌜ (r ≡ x) × (r < 4294967296) ⌝ }
-{
-    x as usize
-}
-
-// Word k of record i, and 0 past the end.
-fn word(table: &[u32], i: usize, k: usize) -> usize
-    requires { ⌜ k ≤ 4 ⌝ }
-    ensures { λ r. ⌜ (r ≡ word (now (table .entry)) i k) × (r < 4294967296) ⌝ }
-{
-    if i < table.len() {
-        let j = 5 * i + k;
-        if j < table.len() {
-            return wide(table[j]);
-        }
-        return 0;
-    }
-    0
-}
-
-// The first record from i on that is no prefix comment.
-fn after_prefix(table: &[u32], i: usize) -> usize
-    ensures { λ r. ⌜ AfterPrefix (now (table .entry)) i r ⌝ }
-{
-    let mut j = i;
-    while word(table, j, 0) == 7 {
-        j += 1;
-    }
-    j
-}
-
-fn has_suffix(table: &[u32], i: usize, end: usize) -> bool
-    ensures { λ r. ⌜ r ≡ hasSuffix (now (table .entry)) end i ⌝ }
-{
-    if i < end {
-        word(table, i, 0) == 8
-    } else {
-        false
-    }
 }
 
 // ---- texts and comments
@@ -484,17 +447,6 @@ fn put_flat(text: &[u8], table: &[u32], i: usize, out: &mut [u8], live: bool, at
 
 // ---- items
 
-// Does an item start at record i?
-fn more(table: &[u32], i: usize, end: usize) -> bool
-    ensures { λ r. ⌜ r ≡ moreAt (now (table .entry)) end i ⌝ }
-{
-    if i < end {
-        word(table, i, 0) != 9
-    } else {
-        false
-    }
-}
-
 // A line end before a later item with prefix comments.
 fn gap(
     table: &[u32],
@@ -515,19 +467,6 @@ fn gap(
         return newline(o, out, live, at);
     }
     at
-}
-
-// The record after a tree.
-fn next_tree(table: &[u32], i: usize, end: usize) -> usize
-    requires { ⌜ ((s : List ℕ) × SomeTree s (now table) end i) ⌝ }
-    ensures { λ r. ⌜ ((s : List ℕ) (t : TokenTree) → TreeAt s (now (table .entry)) end i t → r ≡ i + sizeTree t) ⌝ }
-{
-    let j = after_prefix(table, i);
-    let k = j + word(table, j, 4);
-    if has_suffix(table, k, end) {
-        return k + 1;
-    }
-    k
 }
 
 // A bracket and a line end.

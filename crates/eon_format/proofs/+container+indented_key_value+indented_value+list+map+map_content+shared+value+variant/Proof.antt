@@ -1,10 +1,9 @@
-use Rattle.eon_format.specs.Tabled.{SomeTree, ValueAt, PairedAt, word, SuffixAt, TreeAt, InsideAt, sizeTree, sizeValue}
 use Rattle.eon_spec.specs.Tree.{noTrees, TokenTree, noPairs, Slice, TokenTrees, KeyValues, listOf, mapOf, variantOf}
-use Rattle.eon_format.proofs.Rows.{list-values, plain-law, variant-inside}
-use Rattle.eon_format.proofs.Trees.{value-plain, value-size, inside-closing, inside-end, tree-pos, value-pos}
-use Rattle.eon_format.specs.Long.{pairText, SomePair, PairAt}
+use Rattle.eon_format.proofs.Rows.{plain-law}
+use Rattle.eon_format.proofs.Trees.{value-plain}
+use Rattle.eon_format.specs.Long.{pairText}
 use Rattle.eon_format.proofs.Writing.{wrote-none, going-length, wrote-then, wrote-as}
-use Rattle.eon_format.proofs.Walk.{paired-all, paired-texts, valueOf, value-in, tree-texts, tree-value, tree-suffix, tree-lines, tree-gap, more-in, Through, through-start, through-tree, through-step, through-done, through-end, through-empty, finish, inside-texts, Paired, paired-start, paired-pair, paired-step, paired-done, list-content, list-body, map-content, map-body}
+use Rattle.eon_format.proofs.Walk.{paired-all, tree-lines, tree-gap, Through, through-start, through-tree, through-step, through-done, through-end, through-empty, finish, inside-texts, Paired, paired-start, paired-pair, paired-step, paired-done, list-content, list-body, map-content, map-body}
 use mathlib.Core.Path.{_≡_, sym, ap, _∙_, subst}
 use mathlib.Core.Bool.{true, false}
 use mathlib.Core.List.{List, [], _∷_, _++_}
@@ -14,9 +13,13 @@ use native.Mathlib.Numerals.{add-one}
 use lib.ListN.{length}
 use lib.Dec.{eqb}
 use denote.Ref.{now}
-use Rattle.eon_spec.specs.Layout.{value, indentedValue, listContent, mapContent, noValues, shared, addIndent, suffixComment, settingsOf, gap, suffixOf}
+use Rattle.eon_spec.specs.Layout.{value, indentedValue, listContent, mapContent, noValues, addIndent, suffixComment, settingsOf, gap, suffixOf}
 use Rattle.eon_format.specs.Flat.{flatAt}
-use Rattle.eon_format.proofs.Steps.{map-law, map-pairs, paired-closed, pair-law, two-steps, positive, more-than-one, indented-law, value-list, value-map, value-variant, not-flat, list-value, map-value, variant-value, lines-value, shared-value, blank-value, list-shared, map-shared, container-map, variant-within}
+use Rattle.eon_format.proofs.Steps.{map-law, paired-closed, pair-law, two-steps, positive, more-than-one, indented-law, value-list, value-map, value-variant, not-flat, list-value, map-value, variant-value, lines-value, shared-value, blank-value, list-shared, map-shared, container-map, variant-within}
+use Rattle.eon_table.specs.Words.{word}
+use Rattle.eon_table.specs.TreeAt.{SomeTree, ValueAt, PairedAt, SuffixAt, TreeAt, InsideAt, SomePair, PairAt, valueOf}
+use Rattle.eon_laws.proofs.Records.{treeSize, valueSize}
+use Rattle.eon_table.proofs.Walk.{list-values, variant-inside, value-size, inside-closing, inside-end, tree-pos, value-pos, paired-texts, value-in, tree-texts, tree-value, tree-suffix, more-in, map-pairs}
 use borrow.Author.Needs.{needs}
 use borrow.Fn.Kinds.{In}
 use borrow.Fn.PlainCycle.{Measures, is, falls, and}
@@ -48,7 +51,7 @@ use Rattle.eon_format.proofs.variant.Reads as variant-own
 use Rattle.eon_format.proofs.variant.Kinds as variant-kinds
 use Rattle.eon_format.proofs.+container+indented_key_value+indented_value+list+map+map_content+shared+value+variant.Lts-variant as variant-lts
 use Rattle.eon_format.proofs.add_indent.Reads as add-indent-reads
-use Rattle.eon_format.proofs.after_prefix.Reads as after-prefix-reads
+use Rattle.eon_table.proofs.record.after_prefix.Reads as after-prefix-reads
 use Rattle.eon_format.proofs.close_lines.Reads as close-lines-reads
 use Rattle.eon_format.proofs.closing.Reads as closing-reads
 use Rattle.eon_format.proofs.gap.Reads as gap-reads
@@ -56,9 +59,9 @@ use Rattle.eon_format.proofs.indented_comments.Reads as indented-commen
 use Rattle.eon_format.proofs.is_flat.Reads as is-flat-reads
 use Rattle.eon_format.proofs.lead.Reads as lead-reads
 use Rattle.eon_format.proofs.long_variant.Reads as long-variant-reads
-use Rattle.eon_format.proofs.more.Reads as more-reads
+use Rattle.eon_table.proofs.record.more.Reads as more-reads
 use Rattle.eon_format.proofs.newline.Reads as newline-reads
-use Rattle.eon_format.proofs.next_tree.Reads as next-tree-reads
+use Rattle.eon_table.proofs.record.next_tree.Reads as next-tree-reads
 use Rattle.eon_format.proofs.open_lines.Reads as open-lines-reads
 use Rattle.eon_format.proofs.put.Reads as put-reads
 use Rattle.eon_format.proofs.put_blank.Reads as put-blank-reads
@@ -68,7 +71,7 @@ use Rattle.eon_format.proofs.put_text.Reads as put-text-reads
 use Rattle.eon_format.proofs.separator.Reads as separator-reads
 use Rattle.eon_format.proofs.sole.Reads as sole-reads
 use Rattle.eon_format.proofs.suffix_comment.Reads as suffix-comment-reads
-use Rattle.eon_format.proofs.word.Reads as word-reads
+use Rattle.eon_table.proofs.record.word.Reads as word-reads
 use Rattle.eon_format.proofs.+container+indented_key_value+indented_value+list+map+map_content+shared+value+variant.{statement}
 use Rattle.eon_format.proofs.+container+indented_key_value+indented_value+list+map+map_content+shared+value+variant.Tie.{close}
 
@@ -321,8 +324,8 @@ container-is-flat-requires t c κs =
     let i = a .i in
     let v = c .before .before .before .pre .1 .2 .0 in
     let h = c .before .before .before .pre .1 .2 .1 in
-    let e : word tb i 4 ≡ sizeValue v = value-size s tb i v h in
-    let p : 1 ≤ sizeValue v = value-pos v in
+    let e : word tb i 4 ≡ valueSize v = value-size s tb i v h in
+    let p : 1 ≤ valueSize v = value-pos v in
     (value-in s tb i v h, omega arith, c .before .before .before .pre .1 .3)
 
 container-put-flat-requires : (t : ℕ) → container-lts.Need-put-flat-requires (container-calls t) (container-at t) container-own.Post
@@ -450,7 +453,7 @@ indented-key-value-lead-requires t c κs =
     let K = c .before .before .before .before .before .before .before .before .before .before .before .pre .1 .2 .0 in
     let Y = c .before .before .before .before .before .before .before .before .before .before .before .pre .1 .2 .1 in
     let H = c .before .before .before .before .before .before .before .before .before .before .before .pre .1 .2 .2 in
-    let z : c .before .before .before .before .before .before .next-tree .result ≡ i + sizeTree K = c .before .before .before .before .before .before .next-tree .ensures s K (H .key) in
+    let z : c .before .before .before .before .before .before .next-tree .result ≡ i + treeSize K = c .before .before .before .before .before .before .next-tree .ensures s K (H .key) in
     let HV : TreeAt s tb (a .end) (c .before .before .before .before .before .before .next-tree .result) Y = subst (λ (x : ℕ). TreeAt s tb (a .end) x Y) (sym z) (H .val) in
     (c .before .before .before .before .before .before .before .before .before .before .before .pre .1 .0, tree-texts s tb (a .end) (c .before .before .before .before .before .before .next-tree .result) (c .before .before .before .before .before .after-prefix2 .result) Y HV (c .before .before .before .before .before .after-prefix2 .ensures))
 
@@ -477,7 +480,7 @@ indented-key-value-value-requires-2 t c κs =
     let K = c .before .before .before .before .before .before .before .before .before .before .before .before .before .before .before .before .before .before .before .before .before .before .before .pre .1 .2 .0 in
     let Y = c .before .before .before .before .before .before .before .before .before .before .before .before .before .before .before .before .before .before .before .before .before .before .before .pre .1 .2 .1 in
     let H = c .before .before .before .before .before .before .before .before .before .before .before .before .before .before .before .before .before .before .before .before .before .before .before .pre .1 .2 .2 in
-    let z : c .before .before .before .before .before .before .before .before .before .before .before .before .before .before .before .before .before .before .next-tree .result ≡ i + sizeTree K = c .before .before .before .before .before .before .before .before .before .before .before .before .before .before .before .before .before .before .next-tree .ensures s K (H .key) in
+    let z : c .before .before .before .before .before .before .before .before .before .before .before .before .before .before .before .before .before .before .next-tree .result ≡ i + treeSize K = c .before .before .before .before .before .before .before .before .before .before .before .before .before .before .before .before .before .before .next-tree .ensures s K (H .key) in
     let HV : TreeAt s tb (a .end) (c .before .before .before .before .before .before .before .before .before .before .before .before .before .before .before .before .before .before .next-tree .result) Y = subst (λ (x : ℕ). TreeAt s tb (a .end) x Y) (sym z) (H .val) in
     let l : c .before .before .before .before .before .before .before .before .before .before .before .before .before .before .before .before .before .before .next-tree .result ≤ c .before .before .before .before .before .before .before .before .before .before .before .before .before .before .before .before .before .after-prefix2 .result = c .before .before .before .before .before .before .before .before .before .before .before .before .before .before .before .before .before .after-prefix2 .ensures .from in
     (omega (arith, c .before .before .before .before .before .before .before .before .before .before .before .before .before .before .before .before .before .before .before .before .before .before .before .pre .0), (c .before .before .before .before .before .before .before .before .before .before .before .before .before .before .before .before .before .before .before .before .before .before .before .pre .1 .0, omega (arith, c .before .before .before .before .before .before .before .before .before .before .before .before .before .before .before .before .before .before .before .before .before .before .before .pre .1 .1), (valueOf Y, tree-value s tb (a .end) (c .before .before .before .before .before .before .before .before .before .before .before .before .before .before .before .before .before .before .next-tree .result) (c .before .before .before .before .before .before .before .before .before .before .before .before .before .before .before .before .before .after-prefix2 .result) Y HV (c .before .before .before .before .before .before .before .before .before .before .before .before .before .before .before .before .before .after-prefix2 .ensures))))
@@ -494,7 +497,7 @@ indented-key-value-add-x t c =
     let K = c .before .before .before .before .before .before .before .before .before .before .before .before .before .before .before .before .before .before .before .before .before .before .before .before .before .before .before .pre .1 .2 .0 in
     let Y = c .before .before .before .before .before .before .before .before .before .before .before .before .before .before .before .before .before .before .before .before .before .before .before .before .before .before .before .pre .1 .2 .1 in
     let H = c .before .before .before .before .before .before .before .before .before .before .before .before .before .before .before .before .before .before .before .before .before .before .before .before .before .before .before .pre .1 .2 .2 in
-    let z : c .before .before .before .before .before .before .before .before .before .before .before .before .before .before .before .before .before .before .before .before .before .before .next-tree .result ≡ i + sizeTree K = c .before .before .before .before .before .before .before .before .before .before .before .before .before .before .before .before .before .before .before .before .before .before .next-tree .ensures s K (H .key) in
+    let z : c .before .before .before .before .before .before .before .before .before .before .before .before .before .before .before .before .before .before .before .before .before .before .next-tree .result ≡ i + treeSize K = c .before .before .before .before .before .before .before .before .before .before .before .before .before .before .before .before .before .before .before .before .before .before .next-tree .ensures s K (H .key) in
     let HV : TreeAt s tb (a .end) (c .before .before .before .before .before .before .before .before .before .before .before .before .before .before .before .before .before .before .before .before .before .before .next-tree .result) Y = subst (λ (x : ℕ). TreeAt s tb (a .end) x Y) (sym z) (H .val) in
     let l : c .before .before .before .before .before .before .before .before .before .before .before .before .before .before .before .before .before .before .before .before .before .after-prefix2 .result < length tb = value-in s tb (c .before .before .before .before .before .before .before .before .before .before .before .before .before .before .before .before .before .before .before .before .before .after-prefix2 .result) (valueOf Y) (tree-value s tb (a .end) (c .before .before .before .before .before .before .before .before .before .before .before .before .before .before .before .before .before .before .before .before .before .before .next-tree .result) (c .before .before .before .before .before .before .before .before .before .before .before .before .before .before .before .before .before .before .before .before .before .after-prefix2 .result) Y HV (c .before .before .before .before .before .before .before .before .before .before .before .before .before .before .before .before .before .before .before .before .before .after-prefix2 .ensures)) in
     omega (arith, c .word .ensures, c .before .before .before .before .before .before .before .before .before .before .before .before .before .before .before .before .before .before .before .before .before .before .before .before .before .before .before .good .1 .0)
@@ -509,7 +512,7 @@ indented-key-value-suffix-comment-requires t c κs =
     let K = c .before .before .before .before .before .before .before .before .before .before .before .before .before .before .before .before .before .before .before .before .before .before .before .before .before .before .before .before .pre .1 .2 .0 in
     let Y = c .before .before .before .before .before .before .before .before .before .before .before .before .before .before .before .before .before .before .before .before .before .before .before .before .before .before .before .before .pre .1 .2 .1 in
     let H = c .before .before .before .before .before .before .before .before .before .before .before .before .before .before .before .before .before .before .before .before .before .before .before .before .before .before .before .before .pre .1 .2 .2 in
-    let z : c .before .before .before .before .before .before .before .before .before .before .before .before .before .before .before .before .before .before .before .before .before .before .before .next-tree .result ≡ i + sizeTree K = c .before .before .before .before .before .before .before .before .before .before .before .before .before .before .before .before .before .before .before .before .before .before .before .next-tree .ensures s K (H .key) in
+    let z : c .before .before .before .before .before .before .before .before .before .before .before .before .before .before .before .before .before .before .before .before .before .before .before .next-tree .result ≡ i + treeSize K = c .before .before .before .before .before .before .before .before .before .before .before .before .before .before .before .before .before .before .before .before .before .before .before .next-tree .ensures s K (H .key) in
     let HV : TreeAt s tb (a .end) (c .before .before .before .before .before .before .before .before .before .before .before .before .before .before .before .before .before .before .before .before .before .before .before .next-tree .result) Y = subst (λ (x : ℕ). TreeAt s tb (a .end) x Y) (sym z) (H .val) in
     (suffixOf Y, subst (λ (x : ℕ). SuffixAt s tb (a .end) (c .before .before .before .before .before .before .before .before .before .before .before .before .before .before .before .before .before .before .before .before .before .before .after-prefix2 .result + x) (suffixOf Y)) (sym (c .before .word .ensures .0)) (tree-suffix s tb (a .end) (c .before .before .before .before .before .before .before .before .before .before .before .before .before .before .before .before .before .before .before .before .before .before .before .next-tree .result) (c .before .before .before .before .before .before .before .before .before .before .before .before .before .before .before .before .before .before .before .before .before .before .after-prefix2 .result) Y HV (c .before .before .before .before .before .before .before .before .before .before .before .before .before .before .before .before .before .before .before .before .before .before .after-prefix2 .ensures)))
 
@@ -523,7 +526,7 @@ indented-key-value-returns t c K Y H =
     let tb = now (a .table) in
     let i = a .i in
     let o = settingsOf (a .o) in
-    let z : c .before .before .before .before .before .before .before .before .before .before .before .before .before .before .before .before .before .before .before .before .before .before .before .before .before .before .next-tree .result ≡ i + sizeTree K = c .before .before .before .before .before .before .before .before .before .before .before .before .before .before .before .before .before .before .before .before .before .before .before .before .before .before .next-tree .ensures s K (H .key) in
+    let z : c .before .before .before .before .before .before .before .before .before .before .before .before .before .before .before .before .before .before .before .before .before .before .before .before .before .before .next-tree .result ≡ i + treeSize K = c .before .before .before .before .before .before .before .before .before .before .before .before .before .before .before .before .before .before .before .before .before .before .before .before .before .before .next-tree .ensures s K (H .key) in
     let HV : TreeAt s tb (a .end) (c .before .before .before .before .before .before .before .before .before .before .before .before .before .before .before .before .before .before .before .before .before .before .before .before .before .before .next-tree .result) Y = subst (λ (x : ℕ). TreeAt s tb (a .end) x Y) (sym z) (H .val) in
     let n = a .n in
     wrote-as
@@ -670,8 +673,8 @@ list-next-tree-requires t c κs = (now (c .before .before .before .before .befor
 list-loop-less : (t : ℕ) → list-lts.Need-loop-less (list-calls t) (list-at t) list-own.Post list-Inv-loop list-μ-loop
 list-loop-less t c =
     let u = list-tree t (c .before .before .before .before .before .before .before .before .before .before .before .before .before) in
-    let z : c .next-tree .result ≡ c .before .before .before .before .before .before .before .before .before .before .before .before .before .before .before .loop .j + sizeTree (u .0) = c .next-tree .ensures (now (c .before .before .before .before .before .before .before .before .before .before .before .before .before .before .before .before .before .before .before .before .before .before .before .before .args .text)) (u .0) (u .1) in
-    let p : 1 ≤ sizeTree (u .0) = tree-pos (u .0) in
+    let z : c .next-tree .result ≡ c .before .before .before .before .before .before .before .before .before .before .before .before .before .before .before .loop .j + treeSize (u .0) = c .next-tree .ensures (now (c .before .before .before .before .before .before .before .before .before .before .before .before .before .before .before .before .before .before .before .before .before .before .before .before .args .text)) (u .0) (u .1) in
+    let p : 1 ≤ treeSize (u .0) = tree-pos (u .0) in
     let y : c .before .before .before .before .before .before .before .before .before .before .before .before .before .before .before .loop .j < c .before .before .before .before .before .before .before .before .before .before .before .before .before .before .before .before .before .before .before .before .before .before .before .before .args .i + c .before .before .before .before .before .before .before .before .before .before .before .before .before .before .before .before .before .before .before .before .word .result = more-in (now (c .before .before .before .before .before .before .before .before .before .before .before .before .before .before .before .before .before .before .before .before .before .before .before .before .args .table)) (c .before .before .before .before .before .before .before .before .before .before .before .before .before .before .before .before .before .before .before .before .before .before .before .before .args .i + c .before .before .before .before .before .before .before .before .before .before .before .before .before .before .before .before .before .before .before .before .word .result) (c .before .before .before .before .before .before .before .before .before .before .before .before .before .before .before .loop .j) (sym (c .before .before .before .before .before .before .before .before .before .before .before .before .before .before .more .ensures) ∙ c .before .before .before .before .before .before .before .before .before .before .before .before .before .if1 .taken) in
     omega arith
 
@@ -684,7 +687,7 @@ list-loop-again t c =
     let end = c .before .before .before .before .before .before .before .before .before .before .before .before .before .before .before .before .before .before .before .before .before .before .before .before .args .i + c .before .before .before .before .before .before .before .before .before .before .before .before .before .before .before .before .before .before .before .before .word .result in
     let j = c .before .before .before .before .before .before .before .before .before .before .before .before .before .before .before .loop .j in
     let u = list-tree t (c .before .before .before .before .before .before .before .before .before .before .before .before .before) in
-    let z : c .next-tree .result ≡ j + sizeTree (u .0) = c .next-tree .ensures s (u .0) (u .1) in (
+    let z : c .next-tree .result ≡ j + treeSize (u .0) = c .next-tree .ensures s (u .0) (u .1) in (
       omega arith,
       λ vs cl h. through-step s tb end (c .next-tree .result) (λ b t. gap o b t ++ indentedValue o n t ++ o .newline) (list-body o n) (c .before .before .before .before .before .before .before .before .before .before .before .before .before .before .before .loop .inv .1 vs cl h) (sym (c .before .before .before .before .before .before .before .before .before .before .before .before .before .before .more .ensures) ∙ c .before .before .before .before .before .before .before .before .before .before .before .before .before .if1 .taken) (c .before .before .before .before .before .before .before .before .before .before .before .before .before .before .before .loop .inv .0)
           (λ t k. wrote-as (ap (λ (x : List ℕ). x ++ indentedValue o n t ++ o .newline) (tree-gap s tb o end j (eqb j (c .before .before .before .before .before .before .before .before .before .before .before .before .before .before .before .before .before .before .before .before .before .before .before .before .args .i + 1)) t k)) (wrote-then (wrote-then (c .before .before .before .before .before .before .before .before .before .before .before .gap .ensures) (c .before .before .before .before .before .before .before .indented-value .ensures t k)) (c .before .before .before .newline .ensures)))
@@ -763,10 +766,10 @@ map-content-pair t d =
     paired-pair s tb (d .before .before .before .before .before .before .before .args .i + d .before .before .before .word .result) (d .before .before .loop .inv .1 (q .0) (q .1) (map-pairs s tb (d .before .before .before .before .before .before .before .args .i) (d .before .before .before .word .result) (d .before .before .before .word .ensures .0) (q .0) (q .1) (q .2))) (sym (d .before .more .ensures) ∙ d .if1 .taken)
 
 -- the record after it
-map-content-next : (t : ℕ) (d : map-content-lts.After-next-tree2 (map-content-calls t) (map-content-at t) map-content-own.Post map-content-Inv-loop map-content-μ-loop) (k v : TokenTree) → PairAt (now (d .before .before .before .before .before .before .before .before .before .before .before .before .before .before .before .before .before .before .before .before .before .args .text)) (now (d .before .before .before .before .before .before .before .before .before .before .before .before .before .before .before .before .before .before .before .before .before .args .table)) (d .before .before .before .before .before .before .before .before .before .before .before .before .before .before .before .before .before .before .before .before .before .args .i + d .before .before .before .before .before .before .before .before .before .before .before .before .before .before .before .before .before .word .result) (d .before .before .before .before .before .before .before .before .before .before .before .before .before .before .before .before .loop .j) k v → d .next-tree2 .result ≡ d .before .before .before .before .before .before .before .before .before .before .before .before .before .before .before .before .loop .j + sizeTree k + sizeTree v
+map-content-next : (t : ℕ) (d : map-content-lts.After-next-tree2 (map-content-calls t) (map-content-at t) map-content-own.Post map-content-Inv-loop map-content-μ-loop) (k v : TokenTree) → PairAt (now (d .before .before .before .before .before .before .before .before .before .before .before .before .before .before .before .before .before .before .before .before .before .args .text)) (now (d .before .before .before .before .before .before .before .before .before .before .before .before .before .before .before .before .before .before .before .before .before .args .table)) (d .before .before .before .before .before .before .before .before .before .before .before .before .before .before .before .before .before .before .before .before .before .args .i + d .before .before .before .before .before .before .before .before .before .before .before .before .before .before .before .before .before .word .result) (d .before .before .before .before .before .before .before .before .before .before .before .before .before .before .before .before .loop .j) k v → d .next-tree2 .result ≡ d .before .before .before .before .before .before .before .before .before .before .before .before .before .before .before .before .loop .j + treeSize k + treeSize v
 map-content-next t d k v p =
     let s = now (d .before .before .before .before .before .before .before .before .before .before .before .before .before .before .before .before .before .before .before .before .before .args .text) in
-    two-steps (d .before .before .before .before .before .before .before .before .before .before .before .before .before .before .before .before .loop .j) (d .before .next-tree .result) (d .next-tree2 .result) (sizeTree k) (sizeTree v) (d .before .next-tree .ensures s k (p .key))
+    two-steps (d .before .before .before .before .before .before .before .before .before .before .before .before .before .before .before .before .loop .j) (d .before .next-tree .result) (d .next-tree2 .result) (treeSize k) (treeSize v) (d .before .next-tree .ensures s k (p .key))
     (λ z. d .next-tree2 .ensures s v (subst (λ (x : ℕ). TreeAt s (now (d .before .before .before .before .before .before .before .before .before .before .before .before .before .before .before .before .before .before .before .before .before .args .table)) (d .before .before .before .before .before .before .before .before .before .before .before .before .before .before .before .before .before .before .before .before .before .args .i + d .before .before .before .before .before .before .before .before .before .before .before .before .before .before .before .before .before .word .result) x v) (sym z) (p .val)))
 
 -- what is left after the last pair
@@ -817,7 +820,7 @@ map-content-loop-less : (t : ℕ) → map-content-lts.Need-loop-less (map-conten
 map-content-loop-less t c =
     let p = map-content-pair t (c .before .before .before .before .before .before .before .before .before .before .before .before .before .before) in
     let z = map-content-next t c (p .0) (p .1) (p .2) in
-    let l : 1 ≤ sizeTree (p .0) = tree-pos (p .0) in
+    let l : 1 ≤ treeSize (p .0) = tree-pos (p .0) in
     let w : c .before .before .before .before .before .before .before .before .before .before .before .before .before .before .before .before .loop .j < c .before .before .before .before .before .before .before .before .before .before .before .before .before .before .before .before .before .before .before .before .before .args .i + c .before .before .before .before .before .before .before .before .before .before .before .before .before .before .before .before .before .word .result = more-in (now (c .before .before .before .before .before .before .before .before .before .before .before .before .before .before .before .before .before .before .before .before .before .args .table)) (c .before .before .before .before .before .before .before .before .before .before .before .before .before .before .before .before .before .before .before .before .before .args .i + c .before .before .before .before .before .before .before .before .before .before .before .before .before .before .before .before .before .word .result) (c .before .before .before .before .before .before .before .before .before .before .before .before .before .before .before .before .loop .j) (sym (c .before .before .before .before .before .before .before .before .before .before .before .before .before .before .before .more .ensures) ∙ c .before .before .before .before .before .before .before .before .before .before .before .before .before .before .if1 .taken) in
     omega arith
 
@@ -1018,8 +1021,8 @@ variant-sole-requires t c κs =
     let h = q .3 in
     let l : i < length tb = value-in s tb i (variantOf M vs cl) h in
     let e : c .before .before .before .before .word .result ≡ word tb i 4 = c .before .before .before .before .word .ensures .0 in
-    let k : word tb i 4 ≡ sizeValue (variantOf M vs cl) = value-size s tb i (variantOf M vs cl) h in
-    let p : 1 ≤ sizeValue (variantOf M vs cl) = value-pos (variantOf M vs cl) in
+    let k : word tb i 4 ≡ valueSize (variantOf M vs cl) = value-size s tb i (variantOf M vs cl) h in
+    let p : 1 ≤ valueSize (variantOf M vs cl) = value-pos (variantOf M vs cl) in
     let u : word tb i 4 ≡ 1 → ⊥ = not-flat s tb i f in
     (omega arith, more-than-one i (c .before .before .before .before .word .result) (omega arith) (λ z. u (sym e ∙ z)), (s, (vs, cl, subst (λ (x : ℕ). InsideAt s tb (i + x) (i + 1) vs cl) (sym e) (variant-inside s tb i M vs cl h))))
 

@@ -4,8 +4,9 @@ use Prim.Native.Nat.{ℕ}
 use lib.ListN.{length}
 use denote.Ref.{now}
 use Rattle.eon_spec.specs.Tree.{TokenTree}
-use Rattle.eon_format.specs.Tabled.{TreeAt}
-use Rattle.eon_format.proofs.Joined.{table-holds, settings-short, formatted}
+use Rattle.eon_table.specs.TreeAt.{TreeAt}
+use Rattle.eon_format.proofs.Joined.{settings-short, formatted}
+use Rattle.eon_table.proofs.Finished.{read-finished}
 use Rattle.eon_spec.specs.Calls.{done, readFinished}
 use Rattle.eon_spec.specs.Records.{treeRecords}
 use borrow.Author.Needs.{needs}
@@ -14,7 +15,7 @@ use Rattle.eon_format.proofs.format_finished.Tie as tie
 
 -- the table holds the tree
 holds : (s tb : List ℕ) (end : ℕ) (t : TokenTree) → readFinished s tb ≡ done t → end ≡ length (treeRecords t) → TreeAt s tb end 0 t
-holds s tb end t e l = subst (λ (n : ℕ). TreeAt s tb n 0 t) (sym l) (table-holds s tb t e)
+holds s tb end t e l = subst (λ (n : ℕ). TreeAt s tb n 0 t) (sym l) (read-finished s tb t e .holds)
 
 lay-out-requires : tie.Need-lay-out-requires
 lay-out-requires c κs =

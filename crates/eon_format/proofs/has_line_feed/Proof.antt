@@ -3,10 +3,10 @@ use mathlib.Core.Logic.{⊎-elim}
 use Prim.Native.Nat.{ℕ, _-_, _<_}
 use native.Mathlib.Omega.{arith}
 use denote.Ref.{now}
-use Rattle.eon_format.specs.Put.{part}
-use Rattle.eon_format.specs.Tabled.{word, textAt}
+use Rattle.eon_table.specs.Words.{part, word, textAt}
 use Rattle.eon_spec.specs.Base.{elem}
-use Rattle.eon_format.proofs.Writing.{part-end, feed-here, feed-on, feed-past}
+use Rattle.eon_table.proofs.Parts.{part-empty}
+use Rattle.eon_format.proofs.Writing.{feed-here, feed-on, feed-past}
 use Rattle.eon_format.proofs.has_line_feed.Statement.{statement}
 use Rattle.eon_format.proofs.has_line_feed.Tie as tie
 
@@ -59,7 +59,7 @@ loop-again c =
 returns-2 : tie.Need-returns-2 Inv-loop μ-loop
 returns-2 c =
     let args = c .before .before .before .before .before .before .args in
-    sym (c .before .loop .inv .1 ∙ ap (elem 10) (part-end (now (args .text)) (c .before .loop .j) (c .before .before .before .word .result) (omega arith)))
+    sym (c .before .loop .inv .1 ∙ ap (elem 10) (sym (part-empty (now (args .text)) (c .before .loop .j) (c .before .before .before .word .result) (omega arith))))
 
 pub has-line-feed-spec : {M : Type 1} → statement M
 has-line-feed-spec =

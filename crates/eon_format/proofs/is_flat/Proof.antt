@@ -1,7 +1,6 @@
 use mathlib.Core.Path.{sym, ap, _∙_}
 use Prim.Native.Nat.{ℕ, _+_}
 use denote.Ref.{now}
-use Rattle.eon_format.specs.Tabled.{word}
 use Rattle.eon_format.specs.Flat.{oneLineAt}
 use Rattle.eon_format.proofs.Records.{flat-map, flat-more}
 use borrow.Author.Needs.{needs}

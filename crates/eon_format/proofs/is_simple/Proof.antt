@@ -1,7 +1,6 @@
 use mathlib.Core.Path.{sym, ap, _∙_}
 use mathlib.Core.Bool.{not}
 use denote.Ref.{now}
-use Rattle.eon_format.specs.Tabled.{word}
 use Rattle.eon_format.proofs.Records.{simple-prefix, simple-long, simple-suffix, simple-string, simple-other}
 use borrow.Author.Needs.{needs}
 use Rattle.eon_format.proofs.is_simple.Statement.{statement}

@@ -1,6 +1,4 @@
-use Rattle.eon_format.specs.Tabled.{SomeTree, word, InsideAt, sizeTree}
 use Rattle.eon_spec.specs.Tree.{noTrees, Slice, TokenTrees}
-use Rattle.eon_format.proofs.Rows.{inside-by}
 use mathlib.Core.Path.{_≡_, sym, ap, _∙_}
 use mathlib.Core.Bool.{true}
 use mathlib.Core.List.{List, _++_}
@@ -10,8 +8,11 @@ use lib.Dec.{eqb}
 use denote.Ref.{now}
 use Rattle.eon_spec.specs.Layout.{gap, lineEnds, noValues, settingsOf}
 use Rattle.eon_format.proofs.Writing.{wrote-none, wrote-then, wrote-as, going-length}
-use Rattle.eon_format.proofs.Walk.{more-in, Through, through-start, through-tree, through-step, through-done, through-end, through-empty, finish, inside-texts, ends-content, ends-body, tree-gap}
-use Rattle.eon_format.proofs.Trees.{inside-closing, inside-end, tree-pos}
+use Rattle.eon_format.proofs.Walk.{Through, through-start, through-tree, through-step, through-done, through-end, through-empty, finish, inside-texts, ends-content, ends-body, tree-gap}
+use Rattle.eon_table.specs.Words.{word}
+use Rattle.eon_table.specs.TreeAt.{SomeTree, InsideAt}
+use Rattle.eon_laws.proofs.Records.{treeSize}
+use Rattle.eon_table.proofs.Walk.{inside-by, more-in, inside-closing, inside-end, tree-pos}
 use borrow.Author.Needs.{needs}
 use Rattle.eon_format.proofs.long_variant.Statement.{statement}
 use Rattle.eon_format.proofs.long_variant.Tie as tie
@@ -80,8 +81,8 @@ loop-less c =
     let before = c .before .before .before .before .before .before .before .before .before in
     let u = tree-here before in
     let l : loop .j < args .i + its-word .result = more-in (now (args .table)) (args .i + its-word .result) (loop .j) (sym (more .ensures) ∙ if1 .taken) in
-    let z : c .next-tree .result ≡ loop .j + sizeTree (u .0) = c .next-tree .ensures (now (args .text)) (u .0) (u .1) in
-    let p : 1 ≤ sizeTree (u .0) = tree-pos (u .0) in
+    let z : c .next-tree .result ≡ loop .j + treeSize (u .0) = c .next-tree .ensures (now (args .text)) (u .0) (u .1) in
+    let p : 1 ≤ treeSize (u .0) = tree-pos (u .0) in
     omega arith
 
 loop-again : tie.Need-loop-again Inv-loop μ-loop
@@ -99,7 +100,7 @@ loop-again c =
     let end = args .i + its-word .result in
     let j = loop .j in
     let u = tree-here before in
-    let z : c .next-tree .result ≡ j + sizeTree (u .0) = c .next-tree .ensures s (u .0) (u .1) in (
+    let z : c .next-tree .result ≡ j + treeSize (u .0) = c .next-tree .ensures s (u .0) (u .1) in (
       omega arith,
       λ vs cl h. through-step s tb end (c .next-tree .result) (λ b t. gap o b t ++ o .newline) (ends-body o) (loop .inv .1 vs cl h) (sym (more .ensures) ∙ if1 .taken) (loop .inv .0)
           (λ t k. wrote-as (ap (λ (x : List ℕ). x ++ o .newline) (tree-gap s tb o end j (eqb j (args .i + 1)) t k)) (wrote-then (its-gap .ensures) (c .before .before .before .newline .ensures)))

@@ -5,9 +5,9 @@ use native.Mathlib.Omega.{arith}
 use borrow.Author.Tests.{not-true, not-false}
 use lib.Dec.{ltb, eqb}
 use denote.Ref.{now}
-use Rattle.eon_format.specs.Tabled.{word}
 use Rattle.eon_format.specs.Flat.{widthAt, lineAt, oneLineAt}
 use Rattle.eon_format.proofs.Records.{one-many, one-few, line-closing, line-stop, line-go, line-end}
+use Rattle.eon_table.specs.Words.{word}
 use borrow.Author.Needs.{needs}
 use Rattle.eon_format.proofs.on_one_line.Statement.{statement}
 use Rattle.eon_format.proofs.on_one_line.Tie as tie

@@ -2,7 +2,7 @@ use mathlib.Core.Path.{sym, ap, _∙_}
 use mathlib.Core.Bool.{Bool, cond}
 use borrow.Author.Tests.{eq-eqb, ne-eqb}
 use denote.Ref.{now}
-use Rattle.eon_format.specs.Tabled.{word}
+use Rattle.eon_table.specs.Words.{word}
 use Rattle.eon_spec.specs.Base.{codes}
 use Rattle.eon_format.proofs.Writing.{wrote-then, wrote-as}
 use borrow.Author.Needs.{needs}

@@ -1,13 +1,13 @@
-use mathlib.Core.Path.{_≡_, sym, ap, _∙_}
+use mathlib.Core.Path.{sym, ap, _∙_}
 use mathlib.Core.List.{[], _∷_, _++_}
 use Prim.Native.Nat.{ℕ, _+_, _-_}
 use native.Mathlib.Omega.{arith}
 use denote.Ref.{now}
-use Rattle.eon_format.specs.Tabled.{textAt}
 use Rattle.eon_format.specs.Flat.{plainLine}
 use Rattle.eon_format.proofs.Writing.{wrote-then, wrote-as}
 use Rattle.eon_format.proofs.Trees.{value-plain}
 use Rattle.eon_format.proofs.Rows.{flat-plains, flat-list, flat-variant, flat-not-map}
+use Rattle.eon_table.specs.Words.{textAt}
 use borrow.Author.Needs.{needs}
 use Rattle.eon_format.proofs.put_flat.Statement.{statement}
 use Rattle.eon_format.proofs.put_flat.Tie as tie

@@ -1,6 +1,5 @@
 use mathlib.Core.Path.{sym, _∙_}
 use denote.Ref.{now}
-use Rattle.eon_format.specs.Tabled.{word}
 use Rattle.eon_format.proofs.Writing.{wrote-then, wrote-as}
 use Rattle.eon_format.proofs.Records.{plain-list, plain-map, plain-text}
 use borrow.Author.Needs.{needs}

@@ -4,10 +4,11 @@ use native.Mathlib.Omega.{arith}
 use lib.ListN.{length}
 use denote.Ref.{now}
 use Rattle.eon_spec.specs.Layout.{settingsOf, suffixOf}
-use Rattle.eon_format.specs.Tabled.{word, SuffixAt}
 use Rattle.eon_format.proofs.Writing.{wrote-as}
-use Rattle.eon_format.proofs.Walk.{valueOf, value-in, tree-texts, tree-value, tree-suffix, tree-lines}
+use Rattle.eon_format.proofs.Walk.{tree-lines}
 use Rattle.eon_format.proofs.Steps.{value-map}
+use Rattle.eon_table.specs.TreeAt.{SuffixAt, valueOf}
+use Rattle.eon_table.proofs.Walk.{value-in, tree-texts, tree-value, tree-suffix}
 use Rattle.eon_format.proofs.Answers.{format-braces, format-other, format-map}
 use borrow.Author.Needs.{needs}
 use Rattle.eon_format.proofs.root.Statement.{statement}

@@ -3,7 +3,6 @@ use mathlib.Core.Logic.{inl, inr}
 use Prim.Native.Nat.{_≤_}
 use native.Mathlib.Omega.{arith}
 use denote.Ref.{now}
-use Rattle.eon_format.specs.Tabled.{word}
 use Rattle.eon_format.proofs.Walk.{inside-some, sole-nine, sole-more, sole-other, sole-found}
 use borrow.Author.Needs.{needs}
 use Rattle.eon_format.proofs.sole.Statement.{statement}

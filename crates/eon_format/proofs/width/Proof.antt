@@ -2,7 +2,7 @@ use mathlib.Core.Path.{sym, _∙_}
 use native.Mathlib.Omega.{arith}
 use borrow.Author.Tests.{eq-eqb, ne-eqb}
 use denote.Ref.{now}
-use Rattle.eon_format.specs.Tabled.{word}
+use Rattle.eon_table.specs.Words.{word}
 use borrow.Author.Needs.{needs}
 use Rattle.eon_format.proofs.width.Statement.{statement}
 use Rattle.eon_format.proofs.width.Tie as tie
