@@ -11,4 +11,3 @@ pub mod Whole
 pub mod Tops
 pub mod Calls
 pub mod OneWalk
-pub mod Ranges

@@ -3,4 +3,3 @@ pub mod Top
 pub mod Answer
 pub mod Tops
 pub mod Call
-pub mod Ranges

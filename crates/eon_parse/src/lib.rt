@@ -14,16 +14,12 @@ ghost use Rattle.eon_parse.specs.Top.{topAt, listBy, severalBy, shapeWho
 ghost use Rattle.eon_parse.specs.Call.{FilledW, FilledO, wentTo, endedBy, Roomy, Written, countOf, placedAnswer};
 ghost use Rattle.eon_spec.specs.Calls.{after, outcomeOf, then, readText, readCall, readFinished};
 ghost use Rattle.eon_parse.specs.Tops.{furtherBy, surplusOf, wholeSame, endMap, endSeveral, endSingle, severalTop, listTop, topView};
-
-pub mod token_tree;
-
 use eon_spec::Answer;
 use eon_spec::Refusal;
 use eon_token::cursor::Cursor;
 use eon_token::cursor::line_feed;
 use eon_token::token_kind::PlacedToken;
 use eon_utf8::well_formed_len;
-pub use token_tree::compare;
 
 // A cursor, the number of records so far, and whether the table has agreed.
 pub struct Walk {

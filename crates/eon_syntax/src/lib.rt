@@ -45,7 +45,7 @@ pub fn format(text: &[u8], table: &[u32], options: FormatOptions, out: &mut [u8]
 pub fn compare(text1: &[u8], table1: &[u32], text2: &[u8], table2: &[u32]) -> Compared
     ensures { λ r. ⌜ comparedOutcome r ≡ compareCall (now (text1 .entry)) (now (table1 .entry)) (now (text2 .entry)) (now (table2 .entry)) ⌝ }
 {
-    eon_parse::compare(text1, table1, text2, table2)
+    eon_compare::compare(text1, table1, text2, table2)
 }
 
 // Does a string without its quotes need none? `[a-zA-Z_][a-zA-Z0-9_]*` and no keyword.

@@ -3,9 +3,10 @@ use native.Mathlib.Omega.{arith}
 use borrow.Author.Needs.{needs}
 use denote.Ref.{now}
 use Rattle.eon_spec.specs.Calls.{outcomeOf}
-use Rattle.eon_parse.proofs.Ranges.{finished-done, first-refused, second-refused, counts-differ, ranges-say}
-use Rattle.eon_parse.proofs.token_tree.compare.Statement.{statement}
-use Rattle.eon_parse.proofs.token_tree.compare.Tie as tie
+use Rattle.eon_table.proofs.Finished.{finished-done}
+use Rattle.eon_compare.proofs.Ranges.{first-refused, second-refused, counts-differ, ranges-say}
+use Rattle.eon_compare.proofs.records.compare.Statement.{statement}
+use Rattle.eon_compare.proofs.records.compare.Tie as tie
 
 finished-requires : tie.Need-finished-requires
 finished-requires c κs = search needs
@@ -43,7 +44,7 @@ same-range-requires c κs =
     let m = c .before .before .m in
     let a = finished-done (now (args .text-a)) (now (args .table-a)) (n .given .0 .0) (sym (ap outcomeOf (n .given .1)) ∙ finished .ensures) in
     let b = finished-done (now (args .text-b)) (now (args .table-b)) (m .given .0 .0) (sym (ap outcomeOf (m .given .1)) ∙ finished2 .ensures) in
-    (omega (arith, a .room), omega (arith, b .room, c .if1 .left))
+    (omega (arith, a .1 .room), omega (arith, b .1 .room, c .if1 .left))
 
 returns-2 : tie.Need-returns-2
 returns-2 c =
