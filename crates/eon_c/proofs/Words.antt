@@ -16,8 +16,9 @@ use Rattle.eon_spec.specs.declared.Unquoted.{Unquoted}
 use Rattle.eon_spec.specs.declared.Unquoted.the-variants as unquoted
 use Rattle.eon_spec.specs.declared.Setting.{Setting}
 use Rattle.eon_spec.specs.declared.FormatOptions.{FormatOptions}
+use Rattle.eon_spec.specs.Layout.{settingOf}
 use Rattle.eon_spec.specs.Calls.{Outcome, After, after, AfterBoth, afterBoth, outcomeOf, comparedOutcome, unquotedOutcome, partOf, showCall}
-use Rattle.eon_c.specs.Words.{refusedWords, doneWords, countWords, truthWords, partWords, sliceNumber, whichOf, shownWords, settingOf, optionsOf}
+use Rattle.eon_c.specs.Words.{refusedWords, doneWords, countWords, truthWords, partWords, sliceNumber, whichOf, shownWords, optionsOf}
 
 module _ (w : List ℕ) where
   pub counted : (a : Answer) (n : ℕ) → a ≡ answer.Done n → w ≡ doneWords n 0 0 → w ≡ countWords (outcomeOf a)

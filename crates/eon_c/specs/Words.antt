@@ -3,14 +3,11 @@
 use Prim.Native.Nat.{ℕ, zero, suc}
 use mathlib.Core.Bool.{Bool, cond}
 use mathlib.Core.List.{List, [], _∷_}
-use lib.Dec.{leb}
-use lib.ListN.{length, replicate}
 use Rattle.eon_spec.specs.declared.Refusal.{Refusal}
 use Rattle.eon_spec.specs.declared.Which.{Which}
 use Rattle.eon_spec.specs.declared.Which.the-variants.{Quoted, Scratch}
-use Rattle.eon_spec.specs.declared.Setting.{Setting}
 use Rattle.eon_spec.specs.declared.FormatOptions.{FormatOptions}
-use Rattle.eon_spec.specs.Layout.{setting}
+use Rattle.eon_spec.specs.Layout.{settingOf}
 use Rattle.eon_spec.specs.Calls.{Outcome, done, refusedWith, Part}
 
 abbrev pub refusedWords : Refusal → List ℕ
@@ -48,10 +45,7 @@ abbrev pub shownWords : ℕ → Which → ℕ → List ℕ
 shownWords zero w start = doneWords 0 0 0
 shownWords (suc n) w start = doneWords (suc n) (sliceNumber w) start
 
--- the settings that four texts name; of a text over 16 bytes the length alone, which layout refuses by 16
-abbrev pub settingOf : List ℕ → Setting
-settingOf t = cond (leb (length t) 16) (setting t) (record { bytes = replicate 16 0; len = length t })
-
+-- the settings that four texts name
 abbrev pub optionsOf : List ℕ → List ℕ → List ℕ → List ℕ → Bool → FormatOptions
 optionsOf indentation newline space separator braces =
     record {

@@ -4,12 +4,13 @@ use mathlib.Core.Bool.{Bool, true, false}
 use mathlib.Core.List.{List, [], _++_}
 use lib.Dec.{eqb}
 use Rattle.eon_spec.specs.Layout.{Settings, addIndent}
+use Rattle.eon_spec.specs.RecordKind.{PREFIX_COMMENT}
 use Rattle.eon_table.specs.Words.{word, textAt}
 
 -- a line end before a later item with prefix comments
 abbrev pub gapAt : Settings → List ℕ → Bool → ℕ → List ℕ
 gapAt o tb true i = []
-gapAt o tb false i = elim (eqb (word tb i 0) 7) [ true ↦ o .newline | false ↦ [] ]
+gapAt o tb false i = elim (eqb (word tb i 0) PREFIX_COMMENT) [ true ↦ o .newline | false ↦ [] ]
 
 module _ (s tb : List ℕ) where
   -- the texts of k records from i on, each on an indented line

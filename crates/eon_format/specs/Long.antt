@@ -7,6 +7,7 @@ use lib.Dec.{eqb}
 use Rattle.eon_spec.specs.Base.{codes}
 use Rattle.eon_spec.specs.Tree.{Slice, TokenTree, TokenValue, TokenTrees, KeyValues}
 use Rattle.eon_spec.specs.Layout.{Settings, addIndent, noValues, noKeyValues, onLines, lineEnds, listContent, mapContent, indentedComments, suffixComment, prefixOf, suffixOf, bareValue, shared, sharedFirst, isEmpty, isContainer, isSoleContainer}
+use Rattle.eon_spec.specs.RecordKind.{LIST}
 use Rattle.eon_table.specs.Words.{word}
 use Rattle.eon_table.specs.TreeAt.{ValueAt}
 
@@ -27,7 +28,7 @@ pairText o n k v =
 
 -- an empty list or map between a variant's brackets
 abbrev pub blankAt : List ℕ → ℕ → List ℕ
-blankAt tb i = cond (eqb (word tb i 0) 4) (codes "[ ]") (codes "{ }")
+blankAt tb i = cond (eqb (word tb i 0) LIST) (codes "[ ]") (codes "{ }")
 
 module _ (s tb : List ℕ) where
   -- a variant's sole list or map, at record r

@@ -7,7 +7,8 @@ ghost use lib.ListN.{length, take, drop};
 ghost use lib.Seq.{sets};
 ghost use mathlib.Core.Option.{Option};
 ghost use Rattle.eon_spec.specs.Tree.{Slice, TokenTree, TokenValue, TokenTrees, KeyValues, listOf, mapOf, variantOf};
-ghost use Rattle.eon_spec.specs.Layout.{Settings, addIndent, suffixComment, value, indentedValue, shared, isContainer, mapContent, closing, noKeyValues, format, textOf, settingsOf};
+ghost use Rattle.eon_spec.specs.RecordKind.{NUMBER};
+ghost use Rattle.eon_spec.specs.Layout.{settingMax, Settings, addIndent, suffixComment, value, indentedValue, shared, isContainer, mapContent, closing, noKeyValues, format, textOf, settingsOf};
 ghost use mathlib.Core.Bool.{true, false, cond};
 ghost use Rattle.eon_spec.specs.Base.{elem};
 ghost use Rattle.eon_spec.specs.Utf8.{isUtf8};
@@ -23,7 +24,15 @@ ghost use Rattle.eon_format.specs.Options.{Short};
 use eon_spec::Answer;
 use eon_spec::FormatOptions;
 use eon_spec::Refusal;
+use eon_spec::SETTING_MAX;
 use eon_spec::Setting;
+use eon_spec::error::NO_SPACE;
+use eon_spec::record_kind::CLOSING_COMMENT;
+use eon_spec::record_kind::LIST;
+use eon_spec::record_kind::MAP;
+use eon_spec::record_kind::NUMBER;
+use eon_spec::record_kind::PREFIX_COMMENT;
+use eon_spec::record_kind::STRING;
 use eon_table::record::after_prefix;
 use eon_table::record::has_suffix;
 use eon_table::record::more;
@@ -45,13 +54,13 @@ fn good_setting(s: Setting) -> bool
 {
     let bytes = s.bytes;
     let len = s.len;
-    if 16 < len {
+    if SETTING_MAX < len {
         return false;
     }
     well_formed(&bytes, len)
 }
 
-// No setting is over 16 bytes, and each is UTF-8.
+// No setting is over SETTING_MAX bytes, and each is UTF-8.
 pub fn good_settings(o: FormatOptions) -> bool
     ensures { λ r. ⌜ r ≡ goodSettings o ⌝ }
 {
@@ -125,7 +134,7 @@ fn put_part(src: &[u8], from: usize, to: usize, out: &mut [u8], live: bool, at: 
 
 // Most settings have one byte: a call of `copy` would cost more than this loop.
 fn put_setting(s: Setting, out: &mut [u8], live: bool, at: usize) -> usize
-    requires { ⌜ s .len ≤ 16 ⌝ }
+    requires { ⌜ s .len ≤ settingMax ⌝ }
     ensures { λ r. ⌜ Wrote live (now (out .entry)) at (textOf s) r (now (out .exit)) ⌝ }
 {
     let bytes = s.bytes;
@@ -285,7 +294,7 @@ fn is_simple(text: &[u8], table: &[u32], i: usize, end: usize) -> bool
     ensures { λ r. ⌜ r ≡ simpleAt (now (text .entry)) (now (table .entry)) end i ⌝ }
 {
     let kind = word(table, i, 0);
-    if kind == 7 {
+    if kind == PREFIX_COMMENT {
         return false;
     }
     if word(table, i, 4) != 1 {
@@ -294,7 +303,7 @@ fn is_simple(text: &[u8], table: &[u32], i: usize, end: usize) -> bool
     if has_suffix(table, i + 1, end) {
         return false;
     }
-    if kind == 3 {
+    if kind == STRING {
         return !has_line_feed(text, table, i);
     }
     true
@@ -304,7 +313,7 @@ fn is_simple(text: &[u8], table: &[u32], i: usize, end: usize) -> bool
 fn width(table: &[u32], i: usize) -> usize
     ensures { λ r. ⌜ (r ≡ widthAt [] (now (table .entry)) i) × (r < 4294967299) ⌝ }
 {
-    if word(table, i, 0) == 3 {
+    if word(table, i, 0) == STRING {
         let from = word(table, i, 1);
         let to = word(table, i, 2);
         if from <= to {
@@ -316,9 +325,9 @@ fn width(table: &[u32], i: usize) -> usize
 }
 
 fn still_numbers(numbers: bool, kind: usize) -> bool
-    ensures { λ r. ⌜ r ≡ cond (eqb kind 2) numbers false ⌝ }
+    ensures { λ r. ⌜ r ≡ cond (eqb kind NUMBER) numbers false ⌝ }
 {
-    if kind == 2 { numbers } else { false }
+    if kind == NUMBER { numbers } else { false }
 }
 
 // should_format_values_on_one_line, with no closing comments: the records from i up to `end`.
@@ -334,7 +343,7 @@ fn on_one_line(text: &[u8], table: &[u32], i: usize, end: usize) -> bool
     let mut wide = 0;
     while j < end {
         let kind = word(table, j, 0);
-        if kind == 9 {
+        if kind == CLOSING_COMMENT {
             return false;
         }
         if !is_simple(text, table, j, end) {
@@ -355,7 +364,7 @@ fn is_flat(text: &[u8], table: &[u32], i: usize) -> bool
     requires { ⌜ (i < length (now table)) × (0 < word (now table) i 4) × (word (now table) i 4 ≡ 1 → ⊥) ⌝ }
     ensures { λ r. ⌜ r ≡ flatAt (now (text .entry)) (now (table .entry)) i ⌝ }
 {
-    if word(table, i, 0) == 5 {
+    if word(table, i, 0) == MAP {
         return false;
     }
     let size = word(table, i, 4);
@@ -368,11 +377,11 @@ fn put_plain(text: &[u8], table: &[u32], i: usize, out: &mut [u8], live: bool, a
     ensures { λ r. ⌜ Wrote live (now (out .entry)) at (plainAt (now (text .entry)) (now (table .entry)) i) r (now (out .exit)) ⌝ }
 {
     let kind = word(table, i, 0);
-    if kind == 4 {
+    if kind == LIST {
         let at = put(out, live, at, 91);
         return put(out, live, at, 93);
     }
-    if kind == 5 {
+    if kind == MAP {
         let at = put(out, live, at, 123);
         return put(out, live, at, 125);
     }
@@ -438,7 +447,7 @@ fn put_flat(text: &[u8], table: &[u32], i: usize, out: &mut [u8], live: bool, at
     ensures { λ r. ⌜ ((o : Settings) (n : ℕ) (v : TokenValue) → ValueAt (now (text .entry)) (now (table .entry)) i v → Wrote live (now (out .entry)) at (value o n v) r (now (out .exit))) ⌝ }
 {
     let size = word(table, i, 4);
-    if word(table, i, 0) == 4 {
+    if word(table, i, 0) == LIST {
         return put_row(text, table, i + 1, i + size, 91, 93, out, live, at);
     }
     let at = put_text(text, table, i, out, live, at);
@@ -463,7 +472,7 @@ fn gap(
     if first {
         return at;
     }
-    if word(table, i, 0) == 7 {
+    if word(table, i, 0) == PREFIX_COMMENT {
         return newline(o, out, live, at);
     }
     at
@@ -513,16 +522,16 @@ fn sole(table: &[u32], i: usize, end: usize) -> usize
     requires { ⌜ (0 < i) × (i < end) × ((s : List ℕ) × SomeInside s (now table) end i) ⌝ }
     ensures { λ r. ⌜ ((s : List ℕ) (vs : TokenTrees) (cl : List Slice) → InsideAt s (now (table .entry)) end i vs cl → SoleAt s (now (table .entry)) i vs cl r) ⌝ }
 {
-    if word(table, i, 0) == 9 {
+    if word(table, i, 0) == CLOSING_COMMENT {
         return 0;
     }
     if next_tree(table, i, end) == end {
         let c = after_prefix(table, i);
         let kind = word(table, c, 0);
-        if kind == 4 {
+        if kind == LIST {
             return c;
         }
-        if kind == 5 {
+        if kind == MAP {
             return c;
         }
     }
@@ -532,7 +541,7 @@ fn sole(table: &[u32], i: usize, end: usize) -> usize
 fn put_blank(table: &[u32], i: usize, out: &mut [u8], live: bool, at: usize) -> usize
     ensures { λ r. ⌜ Wrote live (now (out .entry)) at (blankAt (now (table .entry)) i) r (now (out .exit)) ⌝ }
 {
-    if word(table, i, 0) == 4 {
+    if word(table, i, 0) == LIST {
         let at = put(out, live, at, 91);
         let at = put(out, live, at, 32);
         return put(out, live, at, 93);
@@ -633,10 +642,10 @@ fn container(
         return put_flat(text, table, i, out, live, at);
     }
     let kind = word(table, i, 0);
-    if kind == 4 {
+    if kind == LIST {
         return list(text, table, o, i, n, out, live, at);
     }
-    if kind == 5 {
+    if kind == MAP {
         return map(text, table, o, i, n, out, live, at);
     }
     variant(text, table, o, i, n, out, live, at)
@@ -785,7 +794,7 @@ fn shared(
     if word(table, i, 4) == 1 {
         return put_blank(table, i, out, live, at);
     }
-    if word(table, i, 0) == 4 {
+    if word(table, i, 0) == LIST {
         return list(text, table, o, i, n, out, live, at);
     }
     map(text, table, o, i, n, out, live, at)
@@ -810,7 +819,7 @@ fn root(
         return indented_value(text, table, o, 0, end, 0, out, live, at);
     }
     let j = after_prefix(table, 0);
-    if word(table, j, 0) == 5 {
+    if word(table, j, 0) == MAP {
         let at = indented_comments(text, table, o, 0, j, 0, out, live, at);
         let at = map_content(text, table, o, j, 0, out, live, at);
         let k = j + word(table, j, 4);
@@ -845,7 +854,7 @@ fn lay_out(text: &[u8], table: &[u32], o: FormatOptions, end: usize, out: &mut [
         return Answer::Done(n);
     }
     Answer::Refused(Refusal {
-        number: 14,
+        number: NO_SPACE,
         start: 0,
         end: 0,
         expected: 0,

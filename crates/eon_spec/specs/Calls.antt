@@ -21,7 +21,7 @@ use Rattle.eon_spec.specs.Utf8.{isUtf8, wellFormedLen}
 use Rattle.eon_spec.specs.Tree.{Span, TokenTree}
 use Rattle.eon_spec.specs.Parse.{refusal, Parsed, parsed, refusedBy, parse}
 use Rattle.eon_spec.specs.Records.{Record, treeRecords, words}
-use Rattle.eon_spec.specs.Layout.{textOf, settingsOf, format}
+use Rattle.eon_spec.specs.Layout.{settingMax, textOf, settingsOf, format}
 use Rattle.eon_spec.specs.Unquote.{Unescaped, value, fault, unquote, startsWith}
 
 -- an answer, or a refusal
@@ -103,7 +103,7 @@ readFinished s table = then (readText s) λ t. elim (isFinished table t) [ true 
 
 -- 16: "a setting over 16 bytes or not UTF-8"
 abbrev pub goodSetting : Setting → Bool
-goodSetting s = leb (s .len) 16 && isUtf8 (textOf s)
+goodSetting s = leb (s .len) settingMax && isUtf8 (textOf s)
 
 abbrev pub goodSettings : FormatOptions → Bool
 goodSettings o =

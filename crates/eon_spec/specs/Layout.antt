@@ -44,10 +44,19 @@ settingsOf o =
       alwaysIncludeOuterBraces = o .«always_include_outer_braces»;
     }
 
--- a setting with this text, of at most 16 bytes; and the options with the default texts
-abbrev pub setting : List ℕ → Setting
-setting b = record { bytes = b ++ replicate (16 - length b) 0; len = length b }
+-- the most bytes that a setting may have
+abbrev pub settingMax : ℕ
+settingMax = 16
 
+-- a setting with this text, which is no longer
+abbrev pub setting : List ℕ → Setting
+setting b = record { bytes = b ++ replicate (settingMax - length b) 0; len = length b }
+
+-- a setting with any text; of a longer one it has the length alone, which layout refuses by 16
+abbrev pub settingOf : List ℕ → Setting
+settingOf b = cond (leb (length b) settingMax) (setting b) (record { bytes = replicate settingMax 0; len = length b })
+
+-- the options with the default texts
 abbrev pub defaultOptions : FormatOptions
 defaultOptions =
     record {

@@ -4,6 +4,7 @@ pub mod Regex
 pub mod Token
 pub mod Tree
 pub mod Parse
+pub mod RecordKind
 pub mod Records
 pub mod Layout
 pub mod Unquote

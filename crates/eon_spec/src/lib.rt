@@ -2,11 +2,10 @@
 ghost use mathlib.Core.Path.{_≡_};
 ghost use Rattle.eon_spec.specs.Parse.{refusal};
 ghost use Rattle.eon_spec.specs.Calls.{place};
-ghost use mathlib.Core.Path.{_≡_};
-ghost use mathlib.Core.Bool.{cond};
-ghost use lib.Dec.{leb};
-ghost use lib.ListN.{length, replicate};
-ghost use Rattle.eon_spec.specs.Layout.{setting, defaultOptions};
+ghost use Rattle.eon_spec.specs.Layout.{settingOf, defaultOptions};
+
+pub mod error;
+pub mod record_kind;
 
 // Why a call refuses: the number, the place in bytes, and the token kinds that 11 and 12 name (0 in the others).
 pub struct Refusal {
@@ -59,9 +58,12 @@ pub enum Unquoted {
     Refused(Refusal),
 }
 
+// The most bytes that a setting may have.
+pub const SETTING_MAX: usize = 16;
+
 // A setting's text is the first `len` of its bytes.
 pub struct Setting {
-    pub bytes: [u8; 16],
+    pub bytes: [u8; SETTING_MAX],
     pub len: usize,
 }
 
@@ -90,13 +92,13 @@ impl Refusal {
 }
 
 impl Setting {
-    // A setting with these bytes. Of more than 16 it has the length alone, and layout refuses it by 16.
+    // A setting with these bytes. Of more than SETTING_MAX it has the length alone, and layout refuses it by 16.
     pub fn new(text: &[u8]) -> Self
-        ensures { λ r. ⌜ r ≡ cond (leb (length (now (text .entry))) 16) (setting (now (text .entry))) (record { bytes = replicate 16 0; len = length (now (text .entry)) }) ⌝ }
+        ensures { λ r. ⌜ r ≡ settingOf (now (text .entry)) ⌝ }
     {
         let len = text.len();
-        let mut bytes = [0u8; 16];
-        if 16 < len {
+        let mut bytes = [0u8; SETTING_MAX];
+        if SETTING_MAX < len {
             return Setting { bytes, len };
         }
         let mut i = 0;

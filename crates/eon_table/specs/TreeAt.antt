@@ -6,17 +6,18 @@ use mathlib.Core.Option.{Option, none, some}
 use mathlib.Core.List.{List, [], _∷_}
 use lib.ListN.{length}
 use Rattle.eon_spec.specs.Tree.{Slice, TokenTree, TokenValue, TokenTrees, KeyValues, tree, identifier, number, quotedString, listOf, mapOf, variantOf, noTrees, _∷ᵗ_, noPairs, pair}
+use Rattle.eon_spec.specs.RecordKind.{IDENTIFIER, NUMBER, STRING, LIST, MAP, VARIANT, PREFIX_COMMENT, SUFFIX_COMMENT, CLOSING_COMMENT}
 use Rattle.eon_laws.proofs.Records.{treeSize, valueSize, treesSize, pairsSize}
 use Rattle.eon_table.specs.Words.{word, hasSuffix, textAt, Within}
 
 -- a value's kind, as its record has it
 abbrev pub kindOf : TokenValue → ℕ
-kindOf (identifier b) = 1
-kindOf (number b) = 2
-kindOf (quotedString b) = 3
-kindOf (listOf vs cl) = 4
-kindOf (mapOf kvs cl) = 5
-kindOf (variantOf n vs cl) = 6
+kindOf (identifier b) = IDENTIFIER
+kindOf (number b) = NUMBER
+kindOf (quotedString b) = STRING
+kindOf (listOf vs cl) = LIST
+kindOf (mapOf kvs cl) = MAP
+kindOf (variantOf n vs cl) = VARIANT
 
 -- a tree's value
 abbrev pub valueOf : TokenTree → TokenValue
@@ -35,7 +36,7 @@ module _ (s tb : List ℕ) where
 
   abbrev pub SuffixAt : ℕ → ℕ → Option Slice → Type 0
   SuffixAt end i none = hasSuffix tb end i ≡ false
-  SuffixAt end i (some c) = (hasSuffix tb end i ≡ true) × LeafAt 8 i (c .bytes)
+  SuffixAt end i (some c) = (hasSuffix tb end i ≡ true) × LeafAt SUFFIX_COMMENT i (c .bytes)
 
   -- a container's record
   pub record HeadAt (kind size i : ℕ) : Type 0 where
@@ -46,24 +47,24 @@ module _ (s tb : List ℕ) where
   unfoldable mutual
     pub TreeAt : ℕ → ℕ → TokenTree → Type 0
     TreeAt end i (tree _ p v x) =
-        CommentsAt 7 i p × ValueAt (i + length p) v × SuffixAt end (i + length p + valueSize v) x
+        CommentsAt PREFIX_COMMENT i p × ValueAt (i + length p) v × SuffixAt end (i + length p + valueSize v) x
 
     pub ValueAt : ℕ → TokenValue → Type 0
-    ValueAt i (identifier b) = LeafAt 1 i b
-    ValueAt i (number b) = LeafAt 2 i b
-    ValueAt i (quotedString b) = LeafAt 3 i b
+    ValueAt i (identifier b) = LeafAt IDENTIFIER i b
+    ValueAt i (number b) = LeafAt NUMBER i b
+    ValueAt i (quotedString b) = LeafAt STRING i b
     ValueAt i (listOf vs cl) =
-        HeadAt 4 (valueSize (listOf vs cl)) i
+        HeadAt LIST (valueSize (listOf vs cl)) i
         × TreesAt (i + valueSize (listOf vs cl)) (i + 1) vs
-        × CommentsAt 9 (i + 1 + treesSize vs) cl
+        × CommentsAt CLOSING_COMMENT (i + 1 + treesSize vs) cl
     ValueAt i (mapOf kvs cl) =
-        HeadAt 5 (valueSize (mapOf kvs cl)) i
+        HeadAt MAP (valueSize (mapOf kvs cl)) i
         × PairsAt (i + valueSize (mapOf kvs cl)) (i + 1) kvs
-        × CommentsAt 9 (i + 1 + pairsSize kvs) cl
+        × CommentsAt CLOSING_COMMENT (i + 1 + pairsSize kvs) cl
     ValueAt i (variantOf n vs cl) =
-        HeadAt 6 (valueSize (variantOf n vs cl)) i
+        HeadAt VARIANT (valueSize (variantOf n vs cl)) i
         × TreesAt (i + valueSize (variantOf n vs cl)) (i + 1) vs
-        × CommentsAt 9 (i + 1 + treesSize vs) cl
+        × CommentsAt CLOSING_COMMENT (i + 1 + treesSize vs) cl
         × Within s tb i
         × (textAt s tb i ≡ n .bytes)
 
@@ -79,13 +80,13 @@ module _ (s tb : List ℕ) where
   -- the values and closing comments of a container, from record i up to `end`
   pub record InsideAt (end i : ℕ) (vs : TokenTrees) (cl : List Slice) : Type 0 where
     pub values : TreesAt end i vs
-    pub closing : CommentsAt 9 (i + treesSize vs) cl
+    pub closing : CommentsAt CLOSING_COMMENT (i + treesSize vs) cl
     pub all : end ≡ i + treesSize vs + length cl
 
   -- a map's pairs and closing comments
   pub record PairedAt (end i : ℕ) (kvs : KeyValues) (cl : List Slice) : Type 0 where
     pub pairs : PairsAt end i kvs
-    pub closing : CommentsAt 9 (i + pairsSize kvs) cl
+    pub closing : CommentsAt CLOSING_COMMENT (i + pairsSize kvs) cl
     pub all : end ≡ i + pairsSize kvs + length cl
 
   -- a key and its value

@@ -5,6 +5,7 @@ use mathlib.Core.Bool.{Bool, _&&_, not}
 use mathlib.Core.List.{List, [], _∷_}
 use lib.ListN.{length, getD, take, drop}
 use lib.Dec.{ltb, eqb}
+use Rattle.eon_spec.specs.RecordKind.{PREFIX_COMMENT, SUFFIX_COMMENT, CLOSING_COMMENT}
 use Rattle.eon_spec.specs.Records.{Record}
 
 -- word k of record i
@@ -32,17 +33,17 @@ part s from to = take (to - from) (drop from s)
 
 -- the record i is a suffix comment before the record `end`
 unfoldable pub hasSuffix : List ℕ → ℕ → ℕ → Bool
-hasSuffix tb end i = ltb i end && eqb (word tb i 0) 8
+hasSuffix tb end i = ltb i end && eqb (word tb i 0) SUFFIX_COMMENT
 
 -- an item starts at record i, before the record `end`
 unfoldable pub moreAt : List ℕ → ℕ → ℕ → Bool
-moreAt tb end i = ltb i end && not (eqb (word tb i 0) 9)
+moreAt tb end i = ltb i end && not (eqb (word tb i 0) CLOSING_COMMENT)
 
 -- the first record from i on that is no prefix comment
 pub record AfterPrefix (tb : List ℕ) (i r : ℕ) : Type 0 where
   pub from : i ≤ r
-  pub prefix : (j : ℕ) → i ≤ j → j < r → word tb j 0 ≡ 7
-  pub ends : word tb r 0 ≡ 7 → ⊥
+  pub prefix : (j : ℕ) → i ≤ j → j < r → word tb j 0 ≡ PREFIX_COMMENT
+  pub ends : word tb r 0 ≡ PREFIX_COMMENT → ⊥
 
 module _ (s tb : List ℕ) where
   -- the bytes from a record's start to its text's end

@@ -7,25 +7,11 @@ ghost use Rattle.eon_spec.specs.Base.{eqList};
 ghost use Rattle.eon_spec.specs.Calls.{recordText};
 ghost use Rattle.eon_table.specs.Words.{word, recordOf, part, hasSuffix, moreAt, AfterPrefix};
 ghost use Rattle.eon_table.specs.TreeAt.{SomeTree, NextAt};
-
-// Kinds of records.
-pub const IDENTIFIER: usize = 1;
-
-pub const NUMBER: usize = 2;
-
-pub const STRING: usize = 3;
-
-pub const LIST: usize = 4;
-
-pub const MAP: usize = 5;
-
-pub const VARIANT: usize = 6;
-
-pub const PREFIX: usize = 7;
-
-pub const SUFFIX: usize = 8;
-
-pub const CLOSING: usize = 9;
+use eon_spec::record_kind::CLOSING_COMMENT;
+use eon_spec::record_kind::LIST;
+use eon_spec::record_kind::MAP;
+use eon_spec::record_kind::PREFIX_COMMENT;
+use eon_spec::record_kind::SUFFIX_COMMENT;
 
 // ---- a record
 
@@ -139,7 +125,7 @@ pub fn after_prefix(table: &[u32], i: usize) -> usize
     ensures { λ r. ⌜ AfterPrefix (now (table .entry)) i r ⌝ }
 {
     let mut j = i;
-    while word(table, j, 0) == PREFIX {
+    while word(table, j, 0) == PREFIX_COMMENT {
         j += 1;
     }
     j
@@ -149,7 +135,7 @@ pub fn has_suffix(table: &[u32], i: usize, end: usize) -> bool
     ensures { λ r. ⌜ r ≡ hasSuffix (now (table .entry)) end i ⌝ }
 {
     if i < end {
-        word(table, i, 0) == SUFFIX
+        word(table, i, 0) == SUFFIX_COMMENT
     } else {
         false
     }
@@ -160,7 +146,7 @@ pub fn more(table: &[u32], i: usize, end: usize) -> bool
     ensures { λ r. ⌜ r ≡ moreAt (now (table .entry)) end i ⌝ }
 {
     if i < end {
-        word(table, i, 0) != CLOSING
+        word(table, i, 0) != CLOSING_COMMENT
     } else {
         false
     }

@@ -1,16 +1,14 @@
 -- The bytes passed are in their places, and zeros behind them.
 use mathlib.Core.Path.{_≡_, refl, sym, ap, _∙_}
-use mathlib.Core.Bool.{cond}
 use mathlib.Core.List.{List, [], _∷_, _++_}
 use Prim.Native.Nat.{ℕ, zero, suc, _+_, _-_, _≤_, _<_}
 use native.Mathlib.Omega.{arith}
 use native.Mathlib.Numerals.{add-one}
 use lib.ListN.{length, take, drop, getD, set, replicate}
 use lib.Seq.{take-length}
-use lib.Dec.{leb}
 use borrow.Author.Tests.{le-leb, lt-leb}
 use Rattle.eon_spec.specs.declared.Setting.{Setting}
-use Rattle.eon_spec.specs.Layout.{setting}
+use Rattle.eon_spec.specs.Layout.{settingMax, settingOf}
 use Rattle.eon_spec.proofs.Setting.new.Statement.{statement}
 use Rattle.eon_spec.proofs.Setting.new.Tie as tie
 
@@ -26,29 +24,29 @@ drop-zeros zero (suc k) m e = let q : 0 ≡ m = omega arith in ap (λ (x : ℕ).
 drop-zeros (suc n) (suc k) m e = drop-zeros n k m (omega arith)
 
 abbrev zeros : List ℕ
-zeros = replicate 16 0
+zeros = replicate settingMax 0
 
-again : (t b : List ℕ) (i : ℕ) → b ≡ take i t ++ drop i zeros → i < length t → i < 16 → set b i (getD t i 0) ≡ take (i + 1) t ++ drop (i + 1) zeros
+again : (t b : List ℕ) (i : ℕ) → b ≡ take i t ++ drop i zeros → i < length t → i < settingMax → set b i (getD t i 0) ≡ take (i + 1) t ++ drop (i + 1) zeros
 again t b i e h k = ap (λ (l : List ℕ). set l i (getD t i 0)) e ∙ put-next t zeros i h k ∙ ap (λ (m : ℕ). take m t ++ drop m zeros) (sym (add-one i))
 
-padded : (t b : List ℕ) (i : ℕ) → b ≡ take i t ++ drop i zeros → i ≡ length t → b ≡ t ++ replicate (16 - length t) 0
+padded : (t b : List ℕ) (i : ℕ) → b ≡ take i t ++ drop i zeros → i ≡ length t → b ≡ t ++ replicate (settingMax - length t) 0
 padded t b i e q =
     e
     ∙ ap (λ (m : ℕ). take m t ++ drop m zeros) q
     ∙ ap (λ (x : List ℕ). x ++ drop (length t) zeros) (take-length t)
-    ∙ ap (λ (x : List ℕ). t ++ x) (drop-zeros 16 (length t) (16 - length t) refl)
+    ∙ ap (λ (x : List ℕ). t ++ x) (drop-zeros settingMax (length t) (settingMax - length t) refl)
 
-short : (t b : List ℕ) → length t ≤ 16 → b ≡ t ++ replicate (16 - length t) 0 → _≡_ {A = Setting} (record { bytes = b; len = length t }) (cond (leb (length t) 16) (setting t) (record { bytes = zeros; len = length t }))
-short t b h e = rw (le-leb (length t) 16 h) (ap (λ (x : List ℕ). record { bytes = x; len = length t }) e)
+short : (t b : List ℕ) → length t ≤ settingMax → b ≡ t ++ replicate (settingMax - length t) 0 → _≡_ {A = Setting} (record { bytes = b; len = length t }) (settingOf t)
+short t b h e = rw (le-leb (length t) settingMax h) (ap (λ (x : List ℕ). record { bytes = x; len = length t }) e)
 
 abbrev Inv-loop : tie.InvT-loop
-Inv-loop text len bytes₀ i₀ bytes i = (i ≤ len) × (bytes ≡ take i text ++ drop i (replicate 16 0))
+Inv-loop text len bytes₀ i₀ bytes i = (i ≤ len) × (bytes ≡ take i text ++ drop i zeros)
 
 abbrev μ-loop : tie.MeasureT-loop
 μ-loop text len bytes₀ i₀ bytes i = len - i
 
 returns : tie.Need-returns Inv-loop μ-loop
-returns c = rw (lt-leb (length (c .before .args .text .now)) 16 (c .if1 .taken))
+returns c = rw (lt-leb (length (c .before .args .text .now)) settingMax (c .if1 .taken))
 
 loop-holds : tie.Need-loop-holds Inv-loop μ-loop
 loop-holds c = (omega arith, refl)
