@@ -12,12 +12,14 @@ use Rattle.eon_laws.proofs.Facts.{le-of}
 use Rattle.eon_spec.specs.Base.{eqList}
 use Rattle.eon_spec.specs.Tree.{TokenTree}
 use Rattle.eon_spec.specs.declared.Refusal.{Refusal}
+use Rattle.eon_spec.specs.RecordKind.{LIST, MAP}
 use Rattle.eon_spec.specs.Records.{Record, treeRecords}
 use Rattle.eon_spec.specs.Calls.{Outcome, done, refusedWith, then, readFinished, recordText, sameRecords, compareCall}
 use Rattle.eon_parse.specs.Call.{countOf}
-use Rattle.eon_table.specs.Words.{recordOf, recordsOf}
+use Rattle.eon_table.specs.Words.{recordOf, recordsOf, part}
 use Rattle.eon_table.specs.Finished.{SomeFinished}
 use Rattle.eon_table.proofs.Finished.{refuses, answers}
+use Rattle.eon_table.proofs.Parts.{list-textless, map-textless, text-some}
 use Rattle.eon_compare.specs.Ranges.{sameRecord, insideOf}
 
 -- ---- two records
@@ -30,8 +32,18 @@ module _ (s : List ℕ) (r : Record) (t : List ℕ) (q : Record) where
     pub sizes-differ : (r .size ≡ q .size → ⊥) → false ≡ sameRecord s r t q
     sizes-differ h = sym (rw (eq-eqb (r .kind) (q .kind) e, ne-eqb (r .size) (q .size) h))
 
-    pub texts-say : r .size ≡ q .size → (b : Bool) → b ≡ eqList (recordText s r) (recordText t q) → b ≡ sameRecord s r t q
-    texts-say h b f = f ∙ sym (ap₂ (λ (x y : Bool). x && y && eqList (recordText s r) (recordText t q)) (eq-eqb (r .kind) (q .kind) e) (eq-eqb (r .size) (q .size) h))
+    module _ (h : r .size ≡ q .size) where
+      texts-say : (b : Bool) → b ≡ eqList (recordText s r) (recordText t q) → b ≡ sameRecord s r t q
+      texts-say b f = f ∙ sym (ap₂ (λ (x y : Bool). x && y && eqList (recordText s r) (recordText t q)) (eq-eqb (r .kind) (q .kind) e) (eq-eqb (r .size) (q .size) h))
+
+      pub lists-say : r .kind ≡ LIST → true ≡ sameRecord s r t q
+      lists-say k = texts-say true (ap₂ eqList (list-textless s r k) (list-textless t q (sym e ∙ k)))
+
+      pub maps-say : r .kind ≡ MAP → true ≡ sameRecord s r t q
+      maps-say k = texts-say true (ap₂ eqList (map-textless s r k) (map-textless t q (sym e ∙ k)))
+
+      pub others-say : (r .kind ≡ LIST → ⊥) → (r .kind ≡ MAP → ⊥) → (b : Bool) → b ≡ eqList (part s (r .start) (r .textEnd)) (part t (q .start) (q .textEnd)) → b ≡ sameRecord s r t q
+      others-say l m b f = texts-say b (f ∙ ap₂ eqList (text-some s r l m) (text-some t q (λ k. l (e ∙ k)) (λ k. m (e ∙ k))))
 
 -- ---- ranges
 

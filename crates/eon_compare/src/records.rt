@@ -1,19 +1,30 @@
 // Comparison of two trees, each by its text and its finished table, spans aside.
 ghost use mathlib.Core.Path.{_≡_};
-ghost use Prim.Native.Nat.{_+_, _*_, _≤_};
+ghost use Prim.Native.Nat.{_+_, _*_, _≤_, _<_};
 ghost use lib.ListN.{length};
 ghost use Rattle.eon_spec.specs.Calls.{comparedOutcome, compareCall, sameRecords};
-ghost use Rattle.eon_table.specs.Words.{recordOf, recordsOf};
+ghost use Rattle.eon_table.specs.Words.{recordOf, recordsOf, textAt};
 ghost use Rattle.eon_compare.specs.Ranges.{sameRecord, insideOf};
 use eon_parse::finished;
 use eon_spec::Answer;
 use eon_spec::Compared;
-use eon_table::record::kind;
-use eon_table::record::record_text;
+use eon_spec::record_kind::LIST;
+use eon_spec::record_kind::MAP;
+use eon_table::record::part;
 use eon_table::record::same_bytes;
-use eon_table::record::size;
+use eon_table::record::word_within;
 
-// Are two records equal: kind, size and text?
+// The text of a record that stands in the table and is no list or map.
+fn text_within<'a>(text: &'a [u8], table: &[u32], i: usize) -> &'a [u8]
+    requires { ⌜ 5 * i + 4 < length (now table) ⌝ }
+    ensures { λ r. ⌜ now r ≡ textAt (now (text .entry)) (now (table .entry)) i ⌝ }
+{
+    let from = word_within(table, i, 1);
+    let to = word_within(table, i, 2);
+    part(text, from, to)
+}
+
+// Are two records equal: kind, size and text? Both stand in their tables.
 fn same_record(
     text_a: &[u8],
     table_a: &[u32],
@@ -22,25 +33,34 @@ fn same_record(
     table_b: &[u32],
     j: usize,
 ) -> bool
+    requires { ⌜ (5 * i + 4 < length (now «table_a»)) × (5 * j + 4 < length (now «table_b»)) ⌝ }
     ensures { λ r. ⌜ r ≡ sameRecord (now («text_a» .entry)) (recordOf (now («table_a» .entry)) i) (now («text_b» .entry)) (recordOf (now («table_b» .entry)) j) ⌝ }
 {
-    if kind(table_a, i) != kind(table_b, j) {
+    let kind = word_within(table_a, i, 0);
+    if kind != word_within(table_b, j, 0) {
         return false;
     }
-    if size(table_a, i) != size(table_b, j) {
+    if word_within(table_a, i, 4) != word_within(table_b, j, 4) {
         return false;
+    }
+    if kind == LIST {
+        return true;
+    }
+    if kind == MAP {
+        return true;
     }
     same_bytes(
-        record_text(text_a, table_a, i),
-        record_text(text_b, table_b, j),
+        text_within(text_a, table_a, i),
+        text_within(text_b, table_b, j),
     )
 }
 
 // How many records stand in record i; a size that reaches past what is left counts none.
 fn inside(table: &[u32], i: usize, left: usize) -> usize
+    requires { ⌜ 5 * i + 4 < length (now table) ⌝ }
     ensures { λ r. ⌜ r ≡ insideOf (recordOf (now (table .entry)) i .size) left ⌝ }
 {
-    let size = size(table, i);
+    let size = word_within(table, i, 4);
     if size == 0 {
         return 0;
     }

@@ -2,7 +2,7 @@
 ghost use mathlib.Core.Path.{_≡_};
 ghost use mathlib.Core.List.{List};
 ghost use lib.ListN.{length};
-ghost use Prim.Native.Nat.{ℕ, _+_, _≤_, _<_};
+ghost use Prim.Native.Nat.{ℕ, _+_, _*_, _≤_, _<_};
 ghost use Rattle.eon_spec.specs.Base.{eqList};
 ghost use Rattle.eon_spec.specs.Calls.{recordText};
 ghost use Rattle.eon_table.specs.Words.{word, recordOf, part, hasSuffix, moreAt, AfterPrefix};
@@ -34,6 +34,14 @@ pub fn word(table: &[u32], i: usize, k: usize) -> usize
         return 0;
     }
     0
+}
+
+// The same of a word that stands in the table: a walk over all records asks for no end.
+pub fn word_within(table: &[u32], i: usize, k: usize) -> usize
+    requires { ⌜ 5 * i + k < length (now table) ⌝ }
+    ensures { λ r. ⌜ (r ≡ word (now (table .entry)) i k) × (r < 4294967296) ⌝ }
+{
+    wide(table[5 * i + k])
 }
 
 pub fn kind(table: &[u32], i: usize) -> usize
