@@ -9,10 +9,9 @@ use lib.ListN.{length, drop}
 use borrow.Author.Tests.{le-leb, lt-leb}
 use Rattle.eon_spec.specs.Tree.{Slice, TokenTree, KeyValues, tree, identifier, number, quotedString, listOf, mapOf, variantOf}
 use Rattle.eon_spec.specs.Layout.{Settings, noKeyValues, prefixOf, suffixOf, closing, indentedValue, mapContent, indentedComments, suffixComment, withoutBraces, format}
-use Rattle.eon_format.proofs.Records.{clash}
-use Rattle.eon_format.specs.Put.{Wrote}
-use Rattle.eon_format.proofs.Writing.{wrote-then, wrote-as, wrote-length}
-use Rattle.eon_format.proofs.Trees.{never}
+use Rattle.eon_laws.proofs.Facts.{clash}
+use Rattle.eon_put.specs.Put.{Wrote}
+use Rattle.eon_put.proofs.Writing.{wrote-then, wrote-as, wrote-length}
 use Rattle.eon_table.specs.Words.{AfterPrefix, word}
 use Rattle.eon_table.specs.TreeAt.{TreeAt, ValueAt, kindOf, valueOf}
 use Rattle.eon_table.proofs.Walk.{value-kind, tree-value}
@@ -22,10 +21,10 @@ use lib.Seq.{sets, sets-eq}
 
 choose-true : (x y : List ℕ) (b : Bool) → b ≡ true → x ≡ elim b [ true ↦ x | false ↦ y ]
 choose-true x y true e = refl
-choose-true x y false e = never e
+choose-true x y false e = clash e refl
 
 choose-false : (x y : List ℕ) (b : Bool) → b ≡ false → y ≡ elim b [ true ↦ x | false ↦ y ]
-choose-false x y true e = clash true refl e
+choose-false x y true e = clash refl e
 choose-false x y false e = refl
 
 pub format-braces : (o : Settings) (t : TokenTree) → o .alwaysIncludeOuterBraces ≡ true → indentedValue o 0 t ≡ format o t

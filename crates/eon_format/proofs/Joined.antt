@@ -10,7 +10,7 @@ use Rattle.eon_spec.specs.Utf8.{isUtf8}
 use Rattle.eon_spec.specs.Tree.{TokenTree}
 use Rattle.eon_spec.specs.Layout.{textOf, settingsOf, format}
 use Rattle.eon_spec.specs.Calls.{done, fill, readFinished, goodSetting, goodSettings, checkedSettings, formatCall}
-use Rattle.eon_format.specs.Options.{Short}
+use Rattle.eon_put.specs.Options.{Short}
 use Rattle.eon_spec.specs.declared.Setting.{Setting}
 use Rattle.eon_spec.specs.declared.FormatOptions.{FormatOptions}
 use Rattle.eon_laws.proofs.Facts.{and-left, and-right}

@@ -12,14 +12,16 @@ use borrow.Author.Tests.{eq-eqb, ne-eqb}
 use Rattle.eon_spec.specs.Base.{codes}
 use Rattle.eon_spec.specs.Tree.{Slice, TokenTree, TokenValue, TokenTrees, KeyValues, tree, identifier, number, quotedString, listOf, mapOf, variantOf, noTrees, _∷ᵗ_, noPairs, pair}
 use Rattle.eon_spec.specs.Layout.{Settings, mapContent, isEmpty, noValues, noKeyValues, onOneLine, value, bareValue, prefixOf, suffixOf, closing, indentedValue, addIndent, indentedComments, suffixComment, isSoleContainer, isContainer, shared, sharedFirst}
-use Rattle.eon_format.specs.Flat.{flatAt}
+use Rattle.eon_one_line.specs.Flat.{flatAt}
 use Rattle.eon_format.specs.Lines.{closingLines}
-use Rattle.eon_format.proofs.Records.{closing-comments, clash, flat-one, flat-more}
-use Rattle.eon_format.specs.Put.{Wrote}
-use Rattle.eon_format.proofs.Writing.{wrote-as, wrote-then}
-use Rattle.eon_format.proofs.Trees.{never, one-line-law}
+use Rattle.eon_format.proofs.Records.{closing-comments}
+use Rattle.eon_laws.proofs.Facts.{clash}
+use Rattle.eon_one_line.proofs.Words.{flat-one, flat-more}
+use Rattle.eon_put.specs.Put.{Wrote}
+use Rattle.eon_put.proofs.Writing.{wrote-as, wrote-then}
+use Rattle.eon_one_line.proofs.Trees.{one-line-law}
 use Rattle.eon_format.specs.Long.{longList, longMap, longVariant, pairText, blankAt}
-use Rattle.eon_format.proofs.Rows.{more-list, more-map}
+use Rattle.eon_one_line.proofs.Rows.{more-list, more-map}
 use Rattle.eon_format.proofs.Walk.{paired-empty}
 use Rattle.eon_table.specs.Words.{word, Within, textAt}
 use Rattle.eon_table.specs.TreeAt.{PairedAt, SomeList, SomeMap, SomeVariant, ValueAt, InsideAt, kindOf, valueOf}
@@ -98,7 +100,7 @@ module _ (s tb : List ℕ) (i : ℕ) where
   value-map (variantOf m vs cl) h e = off-kind (variantOf m vs cl) 5 h e (λ z. omega arith)
 
   pub not-flat : flatAt s tb i ≡ false → word tb i 4 ≡ 1 → ⊥
-  not-flat f e = clash (flatAt s tb i) (sym (flat-one s tb i e)) f
+  not-flat f e = clash (sym (flat-one s tb i e)) f
 
   no-leaf : {A : Type 0} (v : TokenValue) → ValueAt s tb i v → valueSize v ≡ 1 → flatAt s tb i ≡ false → A
   no-leaf v h e f = absurd (not-flat f (value-size s tb i v h ∙ e))
@@ -183,15 +185,15 @@ module _ (s tb : List ℕ) (i : ℕ) where
 
     pub blank-value : (v : TokenValue) → ValueAt s tb i v → isContainer v ≡ true → word tb i 4 ≡ 1 → Wrote live out at (blankAt tb i) r out′ → Wrote live out at (shared o n v) r out′
     unfolding valueSize
-    blank-value (identifier b) h c e w = never c
-    blank-value (number b) h c e w = never c
-    blank-value (quotedString b) h c e w = never c
+    blank-value (identifier b) h c e w = clash c refl
+    blank-value (number b) h c e w = clash c refl
+    blank-value (quotedString b) h c e w = clash c refl
     blank-value (listOf vs cl) h c e w =
         wrote-as (ap (λ (x : Bool). cond x (codes "[ ]") (codes "{ }")) (eq-eqb (word tb i 0) 4 (value-kind s tb i (listOf vs cl) h)) ∙ blank-list o n vs cl (sym (value-size s tb i (listOf vs cl) h) ∙ e)) w
     blank-value (mapOf kvs cl) h c e w =
         let k : word tb i 0 ≡ 5 = value-kind s tb i (mapOf kvs cl) h in
         wrote-as (ap (λ (x : Bool). cond x (codes "[ ]") (codes "{ }")) (ne-eqb (word tb i 0) 4 (λ z. omega arith)) ∙ blank-map o n kvs cl (sym (value-size s tb i (mapOf kvs cl) h) ∙ e)) w
-    blank-value (variantOf m vs cl) h c e w = never c
+    blank-value (variantOf m vs cl) h c e w = clash c refl
 
     pub list-shared : (v : TokenValue) → ValueAt s tb i v → (word tb i 4 ≡ 1 → ⊥) → word tb i 0 ≡ 4 →
         ((vs : TokenTrees) (cl : List Slice) → ValueAt s tb i (listOf vs cl) → Wrote live out at (longList o n vs cl) r out′) → Wrote live out at (shared o n v) r out′
@@ -204,20 +206,20 @@ module _ (s tb : List ℕ) (i : ℕ) where
 
     pub map-shared : (v : TokenValue) → ValueAt s tb i v → isContainer v ≡ true → (word tb i 4 ≡ 1 → ⊥) → (word tb i 0 ≡ 4 → ⊥) →
         ((kvs : KeyValues) (cl : List Slice) → ValueAt s tb i (mapOf kvs cl) → Wrote live out at (longMap o n kvs cl) r out′) → Wrote live out at (shared o n v) r out′
-    map-shared (identifier b) h c f e w = never c
-    map-shared (number b) h c f e w = never c
-    map-shared (quotedString b) h c f e w = never c
+    map-shared (identifier b) h c f e w = clash c refl
+    map-shared (number b) h c f e w = clash c refl
+    map-shared (quotedString b) h c f e w = clash c refl
     map-shared (listOf vs cl) h c f e w = absurd (e (value-kind s tb i (listOf vs cl) h))
     map-shared (mapOf kvs cl) h c f e w = wrote-as (shared-map o n kvs cl (full-map kvs cl h f)) (w kvs cl h)
-    map-shared (variantOf m vs cl) h c f e w = never c
+    map-shared (variantOf m vs cl) h c f e w = clash c refl
 
   pub container-map : (v : TokenValue) → ValueAt s tb i v → isContainer v ≡ true → (word tb i 0 ≡ 4 → ⊥) → SomeMap s tb i
-  container-map (identifier b) h c e = never c
-  container-map (number b) h c e = never c
-  container-map (quotedString b) h c e = never c
+  container-map (identifier b) h c e = clash c refl
+  container-map (number b) h c e = clash c refl
+  container-map (quotedString b) h c e = clash c refl
   container-map (listOf vs cl) h c e = absurd (e (value-kind s tb i (listOf vs cl) h))
   container-map (mapOf kvs cl) h c e = (kvs, cl, h)
-  container-map (variantOf m vs cl) h c e = never c
+  container-map (variantOf m vs cl) h c e = clash c refl
 
   pub variant-within : (m : Slice) (vs : TokenTrees) (cl : List Slice) → ValueAt s tb i (variantOf m vs cl) → Within s tb i
   unfolding ValueAt

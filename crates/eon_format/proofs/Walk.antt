@@ -12,10 +12,10 @@ use borrow.Author.Tests.{eq-eqb, ne-eqb}
 use Rattle.eon_spec.specs.Tree.{Slice, TokenTree, TokenValue, TokenTrees, KeyValues, tree, identifier, number, quotedString, listOf, mapOf, variantOf, noTrees, _∷ᵗ_, noPairs, pair}
 use Rattle.eon_spec.specs.Layout.{Settings, isEmpty, noValues, noKeyValues, bareValue, prefixOf, suffixOf, gap, lineEnds, closing, indentedValue, listContent, mapContent, addIndent, indentedComments, suffixComment, isSoleContainer, isContainer, shared, sharedTree, sharedFirst}
 use Rattle.eon_format.specs.Lines.{gapAt, lines, closingLines}
-use Rattle.eon_format.proofs.Records.{clash, lines-comments, closing-comments}
-use Rattle.eon_format.specs.Put.{Wrote}
-use Rattle.eon_format.proofs.Writing.{wrote-then, wrote-as, Going, going-from, going-step, going-end}
-use Rattle.eon_format.proofs.Trees.{never}
+use Rattle.eon_laws.proofs.Facts.{clash}
+use Rattle.eon_format.proofs.Records.{lines-comments, closing-comments}
+use Rattle.eon_put.specs.Put.{Wrote}
+use Rattle.eon_put.proofs.Writing.{wrote-then, wrote-as, Going, going-from, going-step, going-end}
 use Rattle.eon_format.specs.Long.{pairText, Found}
 use Rattle.eon_table.specs.Words.{moreAt, AfterPrefix, Texts, word}
 use Rattle.eon_table.specs.TreeAt.{PairedAt, SomeTree, CommentsAt, TreeAt, InsideAt, kindOf, PairAt, SomePair, valueOf}
@@ -40,14 +40,14 @@ module _ (s tb : List ℕ) where
 
 pub gap-first : (o : Settings) (tb : List ℕ) (first : Bool) (i : ℕ) → first ≡ true → [] ≡ gapAt o tb first i
 gap-first o tb true i e = refl
-gap-first o tb false i e = never e
+gap-first o tb false i e = clash e refl
 
 pub gap-lines : (o : Settings) (tb : List ℕ) (first : Bool) (i : ℕ) → first ≡ false → word tb i 0 ≡ 7 → o .newline ≡ gapAt o tb first i
-gap-lines o tb true i e f = clash true refl e
+gap-lines o tb true i e f = clash refl e
 gap-lines o tb false i e f = rw (eq-eqb (word tb i 0) 7 f, gapAt)
 
 pub gap-none : (o : Settings) (tb : List ℕ) (first : Bool) (i : ℕ) → first ≡ false → (word tb i 0 ≡ 7 → ⊥) → [] ≡ gapAt o tb first i
-gap-none o tb true i e f = clash true refl e
+gap-none o tb true i e f = clash refl e
 gap-none o tb false i e f = rw (ne-eqb (word tb i 0) 7 f, gapAt)
 
 -- ---- items of a list
@@ -64,7 +64,7 @@ module _ (s tb : List ℕ) (end : ℕ) where
     through-tree h m = go (h .ts) (h .inside)
       where
         go : (ts : TokenTrees) → InsideAt s tb end j ts cl → SomeTree s tb end j
-        go noTrees a = clash (moreAt tb end j) m (more-none s tb end j cl a)
+        go noTrees a = clash m (more-none s tb end j cl a)
         go (t ∷ᵗ ts) a = (t, inside-tree s tb end j t ts cl a)
 
     pub through-step : {at′ : ℕ} {out′ : List ℕ} (j′ : ℕ) (body : Bool → TokenTree → List ℕ) →
@@ -76,7 +76,7 @@ module _ (s tb : List ℕ) (end : ℕ) where
     through-step {at′} {out′} j′ body law h m l w e = go (h .ts) (h .inside) (h .going)
       where
         go : (ts : TokenTrees) → InsideAt s tb end j ts cl → Going live out₀ at₀ total at out (content (eqb j base) ts) → Through live out₀ at₀ total content cl base j′ at′ out′
-        go noTrees a g = clash (moreAt tb end j) m (more-none s tb end j cl a)
+        go noTrees a g = clash m (more-none s tb end j cl a)
         go (t ∷ᵗ ts) a g =
             let k = inside-tree s tb end j t ts cl a in
             let q : j′ ≡ j + treeSize t = e t k in
@@ -92,14 +92,14 @@ module _ (s tb : List ℕ) (end : ℕ) where
       where
         go : (ts : TokenTrees) → InsideAt s tb end j ts cl → InsideAt s tb end j noTrees cl
         go noTrees a = a
-        go (t ∷ᵗ ts) a = clash (moreAt tb end j) (more-tree s tb end j t (inside-tree s tb end j t ts cl a) (inside-in s tb end j t ts cl a)) m
+        go (t ∷ᵗ ts) a = clash (more-tree s tb end j t (inside-tree s tb end j t ts cl a) (inside-in s tb end j t ts cl a)) m
 
     pub through-end : Through live out₀ at₀ total content cl base j at out → moreAt tb end j ≡ false → ((b : Bool) → content b noTrees ≡ []) → Wrote live out₀ at₀ total at out
     through-end h m e = go (h .ts) (h .inside) (h .going)
       where
         go : (ts : TokenTrees) → InsideAt s tb end j ts cl → Going live out₀ at₀ total at out (content (eqb j base) ts) → Wrote live out₀ at₀ total at out
         go noTrees a g = going-end g (e (eqb j base))
-        go (t ∷ᵗ ts) a g = clash (moreAt tb end j) (more-tree s tb end j t (inside-tree s tb end j t ts cl a) (inside-in s tb end j t ts cl a)) m
+        go (t ∷ᵗ ts) a g = clash (more-tree s tb end j t (inside-tree s tb end j t ts cl a) (inside-in s tb end j t ts cl a)) m
 
   pub through-start : {live : Bool} {out₀ : List ℕ} {at₀ : ℕ} {b : List ℕ} {at : ℕ} {out : List ℕ} (content : Bool → TokenTrees → List ℕ) (vs : TokenTrees) (cl : List Slice) (base : ℕ) →
       InsideAt s tb end base vs cl → Wrote live out₀ at₀ b at out → Through live out₀ at₀ (b ++ content true vs) content cl base base at out
@@ -248,7 +248,7 @@ module _ (s tb : List ℕ) (end : ℕ) where
     paired-pair h m = go (h .ts) (h .inside)
       where
         go : (ts : KeyValues) → PairedAt s tb end j ts cl → SomePair s tb end j
-        go noPairs a = clash (moreAt tb end j) m (no-more s tb end j cl a)
+        go noPairs a = clash m (no-more s tb end j cl a)
         go (pair k v ts) a = (k, v, paired-first s tb end j k v ts cl a)
 
     pub paired-step : {at′ : ℕ} {out′ : List ℕ} (j′ : ℕ) (body : Bool → TokenTree → TokenTree → List ℕ) →
@@ -260,7 +260,7 @@ module _ (s tb : List ℕ) (end : ℕ) where
     paired-step {at′} {out′} j′ body law h m l w e = go (h .ts) (h .inside) (h .going)
       where
         go : (ts : KeyValues) → PairedAt s tb end j ts cl → Going live out₀ at₀ total at out (content (eqb j base) ts) → Paired live out₀ at₀ total content cl base j′ at′ out′
-        go noPairs a g = clash (moreAt tb end j) m (no-more s tb end j cl a)
+        go noPairs a g = clash m (no-more s tb end j cl a)
         go (pair x y ts) a g =
             let k = paired-first s tb end j x y ts cl a in
             let q : j′ ≡ j + treeSize x + treeSize y = e x y k in
@@ -276,14 +276,14 @@ module _ (s tb : List ℕ) (end : ℕ) where
       where
         go : (ts : KeyValues) → PairedAt s tb end j ts cl → PairedAt s tb end j noPairs cl
         go noPairs a = a
-        go (pair x y ts) a = clash (moreAt tb end j) (one-more s tb end j x y ts cl a) m
+        go (pair x y ts) a = clash (one-more s tb end j x y ts cl a) m
 
     pub paired-all : Paired live out₀ at₀ total content cl base j at out → moreAt tb end j ≡ false → ((b : Bool) → content b noPairs ≡ []) → Wrote live out₀ at₀ total at out
     paired-all h m e = go (h .ts) (h .inside) (h .going)
       where
         go : (ts : KeyValues) → PairedAt s tb end j ts cl → Going live out₀ at₀ total at out (content (eqb j base) ts) → Wrote live out₀ at₀ total at out
         go noPairs a g = going-end g (e (eqb j base))
-        go (pair x y ts) a g = clash (moreAt tb end j) (one-more s tb end j x y ts cl a) m
+        go (pair x y ts) a g = clash (one-more s tb end j x y ts cl a) m
 
   pub paired-start : {live : Bool} {out₀ : List ℕ} {at₀ : ℕ} {b : List ℕ} {at : ℕ} {out : List ℕ} (content : Bool → KeyValues → List ℕ) (vs : KeyValues) (cl : List Slice) (base : ℕ) →
       PairedAt s tb end base vs cl → Wrote live out₀ at₀ b at out → Paired live out₀ at₀ (b ++ content true vs) content cl base base at out

@@ -2,184 +2,41 @@
 ghost use mathlib.Core.Path.{_≡_};
 ghost use mathlib.Core.List.{List, [], _∷_, _++_};
 ghost use Prim.Native.Nat.{ℕ, _+_, _-_, _<_, _≤_};
-ghost use lib.Dec.{eqb};
-ghost use lib.ListN.{length, take, drop};
-ghost use lib.Seq.{sets};
+ghost use lib.ListN.{length};
 ghost use mathlib.Core.Option.{Option};
 ghost use Rattle.eon_spec.specs.Tree.{Slice, TokenTree, TokenValue, TokenTrees, KeyValues, listOf, mapOf, variantOf};
-ghost use Rattle.eon_spec.specs.RecordKind.{NUMBER};
-ghost use Rattle.eon_spec.specs.Layout.{settingMax, Settings, addIndent, suffixComment, value, indentedValue, shared, isContainer, mapContent, closing, noKeyValues, format, textOf, settingsOf};
-ghost use mathlib.Core.Bool.{true, false, cond};
-ghost use Rattle.eon_spec.specs.Base.{elem};
-ghost use Rattle.eon_spec.specs.Utf8.{isUtf8};
-ghost use Rattle.eon_format.specs.Flat.{commaAt, simpleAt, widthAt, oneLineAt, flatAt, plainAt, plainLine, Plain};
+ghost use Rattle.eon_spec.specs.Layout.{Settings, addIndent, suffixComment, value, indentedValue, shared, isContainer, mapContent, closing, noKeyValues, format, textOf, settingsOf};
+ghost use mathlib.Core.Bool.{true, false};
+ghost use Rattle.eon_one_line.specs.Flat.{flatAt};
 ghost use Rattle.eon_format.specs.Long.{longList, longMap, longVariant, pairText, blankAt, SoleAt, SomeContainer};
 ghost use Rattle.eon_spec.specs.Records.{treeRecords};
-ghost use Rattle.eon_spec.specs.Calls.{done, readFinished, goodSetting, goodSettings, formatCall, fill, after, outcomeOf};
+ghost use Rattle.eon_spec.specs.Calls.{done, readFinished, goodSettings, formatCall, fill, after, outcomeOf};
 ghost use Rattle.eon_format.specs.Lines.{gapAt, lines, closingLines};
-ghost use Rattle.eon_format.specs.Put.{Wrote};
-ghost use Rattle.eon_table.specs.Words.{word, Within, textAt, Texts, part};
+ghost use Rattle.eon_put.specs.Put.{Wrote};
+ghost use Rattle.eon_table.specs.Words.{word, Texts};
 ghost use Rattle.eon_table.specs.TreeAt.{PairAt, SomePair, SomeList, SomeMap, SomeVariant, SomeInside, TreeAt, ValueAt, SomeTree, SomeValue, InsideAt, SuffixAt};
-ghost use Rattle.eon_format.specs.Options.{Short};
+ghost use Rattle.eon_put.specs.Options.{Short};
+use eon_one_line::is_flat;
+use eon_one_line::put_flat;
+use eon_one_line::put_plain;
+use eon_put::add_indent;
+use eon_put::newline;
+use eon_put::put;
+use eon_put::put_setting;
+use eon_put::put_text;
 use eon_spec::Answer;
 use eon_spec::FormatOptions;
 use eon_spec::Refusal;
-use eon_spec::SETTING_MAX;
-use eon_spec::Setting;
 use eon_spec::error::NO_SPACE;
 use eon_spec::record_kind::CLOSING_COMMENT;
 use eon_spec::record_kind::LIST;
 use eon_spec::record_kind::MAP;
-use eon_spec::record_kind::NUMBER;
 use eon_spec::record_kind::PREFIX_COMMENT;
-use eon_spec::record_kind::STRING;
 use eon_table::record::after_prefix;
 use eon_table::record::has_suffix;
 use eon_table::record::more;
 use eon_table::record::next_tree;
 use eon_table::record::word;
-
-// ---- the settings
-
-// The first `len` bytes are UTF-8.
-fn well_formed(bytes: &[u8], len: usize) -> bool
-    requires { ⌜ len ≤ length (now bytes) ⌝ }
-    ensures { λ r. ⌜ r ≡ isUtf8 (take len (now (bytes .entry))) ⌝ }
-{
-    eon_utf8::well_formed_len(&bytes[..len]) == len
-}
-
-fn good_setting(s: Setting) -> bool
-    ensures { λ r. ⌜ r ≡ goodSetting s ⌝ }
-{
-    let bytes = s.bytes;
-    let len = s.len;
-    if SETTING_MAX < len {
-        return false;
-    }
-    well_formed(&bytes, len)
-}
-
-// No setting is over SETTING_MAX bytes, and each is UTF-8.
-pub fn good_settings(o: FormatOptions) -> bool
-    ensures { λ r. ⌜ r ≡ goodSettings o ⌝ }
-{
-    let indentation = o.indentation;
-    if !good_setting(indentation) {
-        return false;
-    }
-    let newline = o.newline;
-    if !good_setting(newline) {
-        return false;
-    }
-    let space = o.space_before_suffix_comment;
-    if !good_setting(space) {
-        return false;
-    }
-    let separator = o.key_value_separator;
-    good_setting(separator)
-}
-
-// ---- writing
-
-// One byte at a position, stored where the walk is live. A full memory answers its length and one.
-fn put(out: &mut [u8], live: bool, at: usize, b: u8) -> usize
-    ensures { λ r. ⌜ Wrote live (now (out .entry)) at (b ∷ []) r (now (out .exit)) ⌝ }
-{
-    if at < out.len() {
-        if live {
-            out[at] = b;
-            return at + 1;
-        }
-        return at + 1;
-    }
-    out.len() + 1
-}
-
-// `n` bytes of `src` from `from` on, to `at` on: all of them fit, so a turn tests nothing else.
-fn copy(src: &[u8], from: usize, n: usize, out: &mut [u8], at: usize)
-    requires { ⌜ (from + n ≤ length (now src)) × (at + n ≤ length (now out)) ⌝ }
-    ensures { λ r. ⌜ now (out .exit) ≡ sets (now (out .entry)) at (take n (drop from (now (src .entry)))) ⌝ }
-{
-    let mut i: usize = 0;
-    while i < n {
-        out[at + i] = src[from + i];
-        i += 1;
-    }
-}
-
-// The bytes of `src` from `from` up to `to`, as far as they fit. Measuring reads none of them.
-fn put_part(src: &[u8], from: usize, to: usize, out: &mut [u8], live: bool, at: usize) -> usize
-    requires { ⌜ (from ≤ to) × (to ≤ length (now src)) ⌝ }
-    ensures { λ r. ⌜ Wrote live (now (out .entry)) at (part (now (src .entry)) from to) r (now (out .exit)) ⌝ }
-{
-    if out.len() < at {
-        return out.len() + 1;
-    }
-    let n = to - from;
-    let room = out.len() - at;
-    if n <= room {
-        if live {
-            copy(src, from, n, out, at);
-            return at + n;
-        }
-        return at + n;
-    }
-    if live {
-        copy(src, from, room, out, at);
-        return out.len() + 1;
-    }
-    out.len() + 1
-}
-
-// Most settings have one byte: a call of `copy` would cost more than this loop.
-fn put_setting(s: Setting, out: &mut [u8], live: bool, at: usize) -> usize
-    requires { ⌜ s .len ≤ settingMax ⌝ }
-    ensures { λ r. ⌜ Wrote live (now (out .entry)) at (textOf s) r (now (out .exit)) ⌝ }
-{
-    let bytes = s.bytes;
-    let len = s.len;
-    let mut at = at;
-    let mut i: usize = 0;
-    while i < len {
-        at = put(out, live, at, bytes[i]);
-        i += 1;
-    }
-    at
-}
-
-fn newline(o: FormatOptions, out: &mut [u8], live: bool, at: usize) -> usize
-    requires { ⌜ Short o ⌝ }
-    ensures { λ r. ⌜ Wrote live (now (out .entry)) at (textOf (o .newline)) r (now (out .exit)) ⌝ }
-{
-    let s = o.newline;
-    put_setting(s, out, live, at)
-}
-
-fn add_indent(o: FormatOptions, n: usize, out: &mut [u8], live: bool, at: usize) -> usize
-    requires { ⌜ Short o ⌝ }
-    ensures { λ r. ⌜ Wrote live (now (out .entry)) at (addIndent (settingsOf o) n) r (now (out .exit)) ⌝ }
-{
-    let s = o.indentation;
-    let mut at = at;
-    let mut k: usize = 0;
-    while k < n {
-        at = put_setting(s, out, live, at);
-        k += 1;
-    }
-    at
-}
-
-// ---- texts and comments
-
-fn put_text(text: &[u8], table: &[u32], i: usize, out: &mut [u8], live: bool, at: usize) -> usize
-    requires { ⌜ Within (now text) (now table) i ⌝ }
-    ensures { λ r. ⌜ Wrote live (now (out .entry)) at (textAt (now (text .entry)) (now (table .entry)) i) r (now (out .exit)) ⌝ }
-{
-    let from = word(table, i, 1);
-    let to = word(table, i, 2);
-    put_part(text, from, to, out, live, at)
-}
 
 // The records from i up to `end`, each on a line.
 fn indented_comments(
@@ -269,189 +126,6 @@ fn closing(
         return indented_comments(text, table, o, i, end, n, out, live, at);
     }
     at
-}
-
-// ---- one line
-
-fn has_line_feed(text: &[u8], table: &[u32], i: usize) -> bool
-    ensures { λ r. ⌜ r ≡ elem 10 (textAt (now (text .entry)) (now (table .entry)) i) ⌝ }
-{
-    let to = word(table, i, 2);
-    let mut j = word(table, i, 1);
-    while j < to {
-        if j < text.len() {
-            if text[j] == 10 {
-                return true;
-            }
-        }
-        j += 1;
-    }
-    false
-}
-
-fn is_simple(text: &[u8], table: &[u32], i: usize, end: usize) -> bool
-    requires { ⌜ i < end ⌝ }
-    ensures { λ r. ⌜ r ≡ simpleAt (now (text .entry)) (now (table .entry)) end i ⌝ }
-{
-    let kind = word(table, i, 0);
-    if kind == PREFIX_COMMENT {
-        return false;
-    }
-    if word(table, i, 4) != 1 {
-        return false;
-    }
-    if has_suffix(table, i + 1, end) {
-        return false;
-    }
-    if kind == STRING {
-        return !has_line_feed(text, table, i);
-    }
-    true
-}
-
-// The estimated width of a value, with the two bytes behind it.
-fn width(table: &[u32], i: usize) -> usize
-    ensures { λ r. ⌜ (r ≡ widthAt [] (now (table .entry)) i) × (r < 4294967299) ⌝ }
-{
-    if word(table, i, 0) == STRING {
-        let from = word(table, i, 1);
-        let to = word(table, i, 2);
-        if from <= to {
-            return to - from + 2;
-        }
-        return 2;
-    }
-    7
-}
-
-fn still_numbers(numbers: bool, kind: usize) -> bool
-    ensures { λ r. ⌜ r ≡ cond (eqb kind NUMBER) numbers false ⌝ }
-{
-    if kind == NUMBER { numbers } else { false }
-}
-
-// should_format_values_on_one_line, with no closing comments: the records from i up to `end`.
-fn on_one_line(text: &[u8], table: &[u32], i: usize, end: usize) -> bool
-    requires { ⌜ i ≤ end ⌝ }
-    ensures { λ r. ⌜ r ≡ oneLineAt (now (text .entry)) (now (table .entry)) end i ⌝ }
-{
-    if 4 < end - i {
-        return false;
-    }
-    let mut j = i;
-    let mut numbers = true;
-    let mut wide = 0;
-    while j < end {
-        let kind = word(table, j, 0);
-        if kind == CLOSING_COMMENT {
-            return false;
-        }
-        if !is_simple(text, table, j, end) {
-            return false;
-        }
-        numbers = still_numbers(numbers, kind);
-        wide += width(table, j);
-        j += 1;
-    }
-    if numbers {
-        return true;
-    }
-    wide < 60
-}
-
-// Whether a list, map or variant with something in it needs no lines.
-fn is_flat(text: &[u8], table: &[u32], i: usize) -> bool
-    requires { ⌜ (i < length (now table)) × (0 < word (now table) i 4) × (word (now table) i 4 ≡ 1 → ⊥) ⌝ }
-    ensures { λ r. ⌜ r ≡ flatAt (now (text .entry)) (now (table .entry)) i ⌝ }
-{
-    if word(table, i, 0) == MAP {
-        return false;
-    }
-    let size = word(table, i, 4);
-    on_one_line(text, table, i + 1, i + size)
-}
-
-// A simple value.
-fn put_plain(text: &[u8], table: &[u32], i: usize, out: &mut [u8], live: bool, at: usize) -> usize
-    requires { ⌜ Plain (now text) (now table) i ⌝ }
-    ensures { λ r. ⌜ Wrote live (now (out .entry)) at (plainAt (now (text .entry)) (now (table .entry)) i) r (now (out .exit)) ⌝ }
-{
-    let kind = word(table, i, 0);
-    if kind == LIST {
-        let at = put(out, live, at, 91);
-        return put(out, live, at, 93);
-    }
-    if kind == MAP {
-        let at = put(out, live, at, 123);
-        return put(out, live, at, 125);
-    }
-    put_text(text, table, i, out, live, at)
-}
-
-fn put_comma(j: usize, end: usize, out: &mut [u8], live: bool, at: usize) -> usize
-    ensures { λ r. ⌜ Wrote live (now (out .entry)) at (commaAt j end) r (now (out .exit)) ⌝ }
-{
-    if j < end {
-        let at = put(out, live, at, 44);
-        return put(out, live, at, 32);
-    }
-    at
-}
-
-// The simple values from record i up to `end`.
-fn one_line(
-    text: &[u8],
-    table: &[u32],
-    i: usize,
-    end: usize,
-    out: &mut [u8],
-    live: bool,
-    at: usize,
-) -> usize
-    requires { ⌜ ((j : ℕ) → i ≤ j → j < end → Plain (now text) (now table) j) ⌝ }
-    ensures { λ r. ⌜ Wrote live (now (out .entry)) at (plainLine (now (text .entry)) (now (table .entry)) i (end - i)) r (now (out .exit)) ⌝ }
-{
-    let mut at = at;
-    let mut j = i;
-    while j < end {
-        at = put_plain(text, table, j, out, live, at);
-        j += 1;
-        at = put_comma(j, end, out, live, at);
-    }
-    at
-}
-
-// Simple values between brackets.
-fn put_row(
-    text: &[u8],
-    table: &[u32],
-    i: usize,
-    end: usize,
-    left: u8,
-    right: u8,
-    out: &mut [u8],
-    live: bool,
-    at: usize,
-) -> usize
-    requires { ⌜ ((j : ℕ) → i ≤ j → j < end → Plain (now text) (now table) j) ⌝ }
-    ensures { λ r. ⌜ Wrote live (now (out .entry)) at ((left ∷ []) ++ plainLine (now (text .entry)) (now (table .entry)) i (end - i) ++ (right ∷ [])) r (now (out .exit)) ⌝ }
-{
-    let at = put(out, live, at, left);
-    let at = one_line(text, table, i, end, out, live, at);
-    put(out, live, at, right)
-}
-
-// A list or variant with something in it that needs no lines.
-fn put_flat(text: &[u8], table: &[u32], i: usize, out: &mut [u8], live: bool, at: usize) -> usize
-    requires { ⌜ (i < length (now table)) × (SomeValue (now text) (now table) i) × (flatAt (now text) (now table) i ≡ true) × (word (now table) i 4 ≡ 1 → ⊥) ⌝ }
-    ensures { λ r. ⌜ ((o : Settings) (n : ℕ) (v : TokenValue) → ValueAt (now (text .entry)) (now (table .entry)) i v → Wrote live (now (out .entry)) at (value o n v) r (now (out .exit))) ⌝ }
-{
-    let size = word(table, i, 4);
-    if word(table, i, 0) == LIST {
-        return put_row(text, table, i + 1, i + size, 91, 93, out, live, at);
-    }
-    let at = put_text(text, table, i, out, live, at);
-    put_row(text, table, i + 1, i + size, 40, 41, out, live, at)
 }
 
 // ---- items
@@ -578,6 +252,7 @@ fn long_variant(
 }
 
 // ---- the walk
+
 // A walk is linear in the records, the bytes of the strings and the indentations written. Its steps over an item look at the item's
 // prefix comments, its own record and the one behind it, at most three times; a container looks at no more than four records to see
 // whether it is flat, and no string is searched for a line feed twice. An indentation costs its depth, also where it is only measured.

@@ -1,8 +1,8 @@
 use Rattle.eon_spec.specs.Tree.{noTrees, TokenTree, noPairs, Slice, TokenTrees, KeyValues, listOf, mapOf, variantOf}
-use Rattle.eon_format.proofs.Rows.{plain-law}
-use Rattle.eon_format.proofs.Trees.{value-plain}
+use Rattle.eon_one_line.proofs.Rows.{plain-law}
+use Rattle.eon_one_line.proofs.Trees.{value-plain}
 use Rattle.eon_format.specs.Long.{pairText}
-use Rattle.eon_format.proofs.Writing.{wrote-none, going-length, wrote-then, wrote-as}
+use Rattle.eon_put.proofs.Writing.{wrote-none, going-length, wrote-then, wrote-as}
 use Rattle.eon_format.proofs.Walk.{paired-all, tree-lines, tree-gap, Through, through-start, through-tree, through-step, through-done, through-end, through-empty, finish, inside-texts, Paired, paired-start, paired-pair, paired-step, paired-done, list-content, list-body, map-content, map-body}
 use mathlib.Core.Path.{_≡_, sym, ap, _∙_, subst}
 use mathlib.Core.Bool.{true, false}
@@ -14,7 +14,7 @@ use lib.ListN.{length}
 use lib.Dec.{eqb}
 use denote.Ref.{now}
 use Rattle.eon_spec.specs.Layout.{value, indentedValue, listContent, mapContent, noValues, addIndent, suffixComment, settingsOf, gap, suffixOf}
-use Rattle.eon_format.specs.Flat.{flatAt}
+use Rattle.eon_one_line.specs.Flat.{flatAt}
 use Rattle.eon_format.proofs.Steps.{map-law, paired-closed, pair-law, two-steps, positive, more-than-one, indented-law, value-list, value-map, value-variant, not-flat, list-value, map-value, variant-value, lines-value, shared-value, blank-value, list-shared, map-shared, container-map, variant-within}
 use Rattle.eon_table.specs.Words.{word}
 use Rattle.eon_table.specs.TreeAt.{SomeTree, ValueAt, PairedAt, SuffixAt, TreeAt, InsideAt, SomePair, PairAt, valueOf}
@@ -50,24 +50,24 @@ use Rattle.eon_format.proofs.+container+indented_key_value+indented_val
 use Rattle.eon_format.proofs.variant.Reads as variant-own
 use Rattle.eon_format.proofs.variant.Kinds as variant-kinds
 use Rattle.eon_format.proofs.+container+indented_key_value+indented_value+list+map+map_content+shared+value+variant.Lts-variant as variant-lts
-use Rattle.eon_format.proofs.add_indent.Reads as add-indent-reads
+use Rattle.eon_put.proofs.add_indent.Reads as add-indent-reads
 use Rattle.eon_table.proofs.record.after_prefix.Reads as after-prefix-reads
 use Rattle.eon_format.proofs.close_lines.Reads as close-lines-reads
 use Rattle.eon_format.proofs.closing.Reads as closing-reads
 use Rattle.eon_format.proofs.gap.Reads as gap-reads
 use Rattle.eon_format.proofs.indented_comments.Reads as indented-comments-reads
-use Rattle.eon_format.proofs.is_flat.Reads as is-flat-reads
+use Rattle.eon_one_line.proofs.is_flat.Reads as is-flat-reads
 use Rattle.eon_format.proofs.lead.Reads as lead-reads
 use Rattle.eon_format.proofs.long_variant.Reads as long-variant-reads
 use Rattle.eon_table.proofs.record.more.Reads as more-reads
-use Rattle.eon_format.proofs.newline.Reads as newline-reads
+use Rattle.eon_put.proofs.newline.Reads as newline-reads
 use Rattle.eon_table.proofs.record.next_tree.Reads as next-tree-reads
 use Rattle.eon_format.proofs.open_lines.Reads as open-lines-reads
-use Rattle.eon_format.proofs.put.Reads as put-reads
+use Rattle.eon_put.proofs.put.Reads as put-reads
 use Rattle.eon_format.proofs.put_blank.Reads as put-blank-reads
-use Rattle.eon_format.proofs.put_flat.Reads as put-flat-reads
-use Rattle.eon_format.proofs.put_plain.Reads as put-plain-reads
-use Rattle.eon_format.proofs.put_text.Reads as put-text-reads
+use Rattle.eon_one_line.proofs.put_flat.Reads as put-flat-reads
+use Rattle.eon_one_line.proofs.put_plain.Reads as put-plain-reads
+use Rattle.eon_put.proofs.put_text.Reads as put-text-reads
 use Rattle.eon_format.proofs.separator.Reads as separator-reads
 use Rattle.eon_format.proofs.sole.Reads as sole-reads
 use Rattle.eon_format.proofs.suffix_comment.Reads as suffix-comment-reads

@@ -1,4 +1,4 @@
-use Rattle.eon_format.proofs.Writing.{wrote-then}
+use Rattle.eon_put.proofs.Writing.{wrote-then}
 use borrow.Author.Needs.{needs}
 use Rattle.eon_format.proofs.close_lines.Statement.{statement}
 use Rattle.eon_format.proofs.close_lines.Tie as tie

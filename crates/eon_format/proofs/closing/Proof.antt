@@ -1,7 +1,7 @@
 use native.Mathlib.Omega.{arith}
 use denote.Ref.{now}
 use Rattle.eon_spec.specs.Layout.{settingsOf}
-use Rattle.eon_format.proofs.Writing.{wrote-none, wrote-then, wrote-as}
+use Rattle.eon_put.proofs.Writing.{wrote-none, wrote-then, wrote-as}
 use Rattle.eon_format.proofs.Records.{closing-empty, closing-items, closing-none}
 use borrow.Author.Needs.{needs}
 use Rattle.eon_format.proofs.closing.Statement.{statement}

@@ -1,7 +1,7 @@
 use mathlib.Core.Path.{sym, _∙_}
 use denote.Ref.{now}
 use Rattle.eon_spec.specs.Layout.{settingsOf}
-use Rattle.eon_format.proofs.Writing.{wrote-none, wrote-as}
+use Rattle.eon_put.proofs.Writing.{wrote-none, wrote-as}
 use Rattle.eon_format.proofs.Walk.{gap-first, gap-lines, gap-none}
 use borrow.Author.Needs.{needs}
 use Rattle.eon_format.proofs.gap.Statement.{statement}

@@ -3,7 +3,7 @@ use native.Mathlib.Omega.{arith}
 use denote.Ref.{now}
 use Rattle.eon_spec.specs.Layout.{settingsOf}
 use Rattle.eon_format.specs.Lines.{lines}
-use Rattle.eon_format.proofs.Writing.{wrote-then, Going, going-start, going-step, going-end, going-length}
+use Rattle.eon_put.proofs.Writing.{wrote-then, Going, going-start, going-step, going-end, going-length}
 use Rattle.eon_format.proofs.Records.{lines-more, lines-none}
 use Rattle.eon_format.proofs.indented_comments.Statement.{statement}
 use Rattle.eon_format.proofs.indented_comments.Tie as tie

@@ -7,7 +7,7 @@ use native.Mathlib.Omega.{arith}
 use lib.Dec.{eqb}
 use denote.Ref.{now}
 use Rattle.eon_spec.specs.Layout.{gap, lineEnds, noValues, settingsOf}
-use Rattle.eon_format.proofs.Writing.{wrote-none, wrote-then, wrote-as, going-length}
+use Rattle.eon_put.proofs.Writing.{wrote-none, wrote-then, wrote-as, going-length}
 use Rattle.eon_format.proofs.Walk.{Through, through-start, through-tree, through-step, through-done, through-end, through-empty, finish, inside-texts, ends-content, ends-body, tree-gap}
 use Rattle.eon_table.specs.Words.{word}
 use Rattle.eon_table.specs.TreeAt.{SomeTree, InsideAt}

@@ -4,7 +4,7 @@ use borrow.Author.Tests.{eq-eqb, ne-eqb}
 use denote.Ref.{now}
 use Rattle.eon_table.specs.Words.{word}
 use Rattle.eon_spec.specs.Base.{codes}
-use Rattle.eon_format.proofs.Writing.{wrote-then, wrote-as}
+use Rattle.eon_put.proofs.Writing.{wrote-then, wrote-as}
 use borrow.Author.Needs.{needs}
 use Rattle.eon_format.proofs.put_blank.Statement.{statement}
 use Rattle.eon_format.proofs.put_blank.Tie as tie

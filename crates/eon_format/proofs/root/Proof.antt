@@ -4,7 +4,7 @@ use native.Mathlib.Omega.{arith}
 use lib.ListN.{length}
 use denote.Ref.{now}
 use Rattle.eon_spec.specs.Layout.{settingsOf, suffixOf}
-use Rattle.eon_format.proofs.Writing.{wrote-as}
+use Rattle.eon_put.proofs.Writing.{wrote-as}
 use Rattle.eon_format.proofs.Walk.{tree-lines}
 use Rattle.eon_format.proofs.Steps.{value-map}
 use Rattle.eon_table.specs.TreeAt.{SuffixAt, valueOf}

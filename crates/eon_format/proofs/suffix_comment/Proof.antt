@@ -1,6 +1,6 @@
 use mathlib.Core.Path.{sym, _∙_}
 use denote.Ref.{now}
-use Rattle.eon_format.proofs.Writing.{wrote-none, wrote-then, wrote-as}
+use Rattle.eon_put.proofs.Writing.{wrote-none, wrote-then, wrote-as}
 use Rattle.eon_format.proofs.Records.{suffix-within, suffix-some, suffix-none}
 use borrow.Author.Needs.{needs}
 use Rattle.eon_format.proofs.suffix_comment.Statement.{statement}
