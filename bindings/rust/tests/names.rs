@@ -1,10 +1,14 @@
-//! The header, the crate and docs/REFUSALS.md say the same: names, numbers and words of refusals and
-//! token kinds, memory that suffices, stacks, the version.
+//! The header, the crate, docs/REFUSALS.md and the proved library's own lists say the same: names,
+//! numbers and words of refusals, token and record kinds, memory that suffices, stacks, the version.
 
 use eon::{RefusalKind, TokenKind, stack};
 
 const HEADER: &str = include_str!("../../../include/eon.h");
 const REFUSALS: &str = include_str!("../../../docs/REFUSALS.md");
+const REFUSAL_LIST: &str = include_str!("../../../crates/eon_spec/src/error.rt");
+const RECORD_KIND_LIST: &str = include_str!("../../../crates/eon_spec/src/record_kind.rt");
+const RECORD_KIND_DEFINITIONS: &str =
+    include_str!("../../../crates/eon_spec/specs/RecordKind.antt");
 
 /// The cases of an enum of the header, in their order, which is that of their numbers from 1 on.
 fn header_cases(name: &str) -> Vec<&'static str> {
@@ -15,6 +19,27 @@ fn header_cases(name: &str) -> Vec<&'static str> {
         .filter_map(|line| line.trim().split([',', ' ']).next())
         .filter(|case| case.starts_with("EON_"))
         .collect()
+}
+
+/// The same without what each begins with.
+fn header_names(name: &str, prefix: &str) -> Vec<String> {
+    let cases = header_cases(name).into_iter();
+    cases
+        .map(|case| case.strip_prefix(prefix).expect("its prefix").to_owned())
+        .collect()
+}
+
+/// A list of the library has these constants and no other, each with its number from 1 on.
+fn lists(list: &str, kind: &str, names: &[String]) {
+    let found: Vec<&str> = list
+        .lines()
+        .filter(|line| line.starts_with("pub const"))
+        .collect();
+    let wanted = (1..).zip(names);
+    let wanted: Vec<String> = wanted
+        .map(|(number, name)| format!("pub const {name}: {kind} = {number};"))
+        .collect();
+    assert_eq!(found, wanted);
 }
 
 /// `NoScalarValue` as `NO_SCALAR_VALUE`.
@@ -48,6 +73,21 @@ fn refusals() {
     let behind = cases.len() as u32 + 1;
     assert_eq!(RefusalKind::of_number(behind), RefusalKind::Other(behind));
     assert!(!REFUSALS.contains(&format!("| {behind} | `")));
+}
+
+#[test]
+fn refusal_list() {
+    lists(REFUSAL_LIST, "u32", &header_names("eon_refusal", "EON_"));
+}
+
+#[test]
+fn record_kinds() {
+    let names = header_names("eon_record_kind", "EON_RECORD_");
+    lists(RECORD_KIND_LIST, "usize", &names);
+    for (number, name) in (1..).zip(&names) {
+        let definition = format!("\n{name} = {number}\n");
+        assert!(RECORD_KIND_DEFINITIONS.contains(&definition), "{name}");
+    }
 }
 
 #[test]
