@@ -10,23 +10,17 @@ use borrow.Author.Tests.{eq-eqb, ne-eqb, le-leb, lt-leb}
 use lib.Dec.{eqb, leb}
 use lib.ListN.{length, getD, drop, take, drop-of-length-le}
 use lib.Seq.{drop-cons, take-nil, take-all}
-use Rattle.eon_spec.specs.Base.{elem, eqList}
+use Rattle.eon_spec.specs.Base.{eqList}
 use Rattle.eon_spec.specs.Unquote.{isLetter, isLetterOrDigit, allLettersOrDigits, startsWith, isName}
 use Rattle.eon_spec.specs.Calls.{partOf, pick, moved, showCall, shownPlace}
 use Rattle.eon_spec.specs.declared.Which.{Which}
-use Rattle.eon_spec.specs.declared.Which.the-variants.{Quoted, Scratch}
+use Rattle.eon_escape.proofs.Lists.{or-nothing}
 
 pub and-true : (a b : Bool) → a ≡ true → a && b ≡ b
 and-true a b e = rw e
 
 pub and-false : (a b : Bool) → a ≡ false → a && b ≡ false
 and-false a b e = rw e
-
-pub or-true : (a b : Bool) → a ≡ true → a || b ≡ true
-or-true a b e = rw e
-
-pub or-false : (a b : Bool) → a ≡ false → a || b ≡ b
-or-false a b e = rw e
 
 module _ (s : List ℕ) (i : ℕ) where
   pub all-step : i < length s → isLetterOrDigit (getD s i 0) ≡ true → allLettersOrDigits (drop i s) ≡ allLettersOrDigits (drop (i + 1) s)
@@ -37,15 +31,6 @@ module _ (s : List ℕ) (i : ℕ) where
 
   pub all-end : length s ≤ i → allLettersOrDigits (drop i s) ≡ true
   all-end h = rw (drop-of-length-le s h)
-
-  pub elem-step : (b : ℕ) → i < length s → (getD s i 0 ≡ b → ⊥) → elem b (drop i s) ≡ elem b (drop (i + 1) s)
-  elem-step b h n = rw (add-one i, drop-cons s i 0 h) (or-false (eqb b (getD s i 0)) (elem b (drop (suc i) s)) (ne-eqb b (getD s i 0) λ e. n (sym e)))
-
-  pub elem-stop : (b : ℕ) → i < length s → getD s i 0 ≡ b → elem b (drop i s) ≡ true
-  elem-stop b h e = rw (drop-cons s i 0 h) (or-true (eqb b (getD s i 0)) (elem b (drop (suc i) s)) (eq-eqb b (getD s i 0) (sym e)))
-
-  pub elem-end : (b : ℕ) → length s ≤ i → elem b (drop i s) ≡ false
-  elem-end b h = rw (drop-of-length-le s h)
 
 -- what is left of the comparison of a text with a mark, from a place on
 abbrev pub left : List ℕ → List ℕ → ℕ → Bool
@@ -105,10 +90,6 @@ module _ (a b d : Bool) where
 
   pub part-plain : a ≡ false → b ≡ false → not d ≡ not a && (b || not d)
   part-plain e f = rw (e, f)
-
-or-nothing : (b : Bool) → b || false ≡ b
-or-nothing true = refl
-or-nothing false = refl
 
 -- a name that is none of three words
 module _ (n t f u : Bool) where

@@ -1,20 +1,46 @@
 -- Marks, and what stands between them.
-use mathlib.Core.Path.{_≡_, refl, ap, _∙_}
+use mathlib.Core.Path.{_≡_, refl, ap, _∙_, sym}
 use mathlib.Core.Bool.{Bool, true, false, cond}
 use mathlib.Core.List.{List, [], _∷_}
-use Prim.Native.Nat.{ℕ, _-_}
+use Prim.Native.Nat.{ℕ, _-_, suc, _≤_}
 use native.Mathlib.Omega.{arith}
-use borrow.Author.Tests.{ne-eqb, eqb-true}
+use borrow.Author.Tests.{ne-eqb, eqb-true, eq-eqb}
 use lib.Dec.{eqb}
 use lib.ListN.{length, drop, take, replicate}
 use Rattle.eon_spec.specs.Base.{elem, eqList, codes}
 use Rattle.eon_spec.specs.Unquote.{value, fault, unescape, plain, startsWith, endsWith, oneLineOnly, dropLineFeed, unquoteChars}
 use Rattle.eon_spec.specs.Unquote as unquoting
-use Rattle.eon_strings.specs.Views.{kept, readsBy, modeOf, content, marked}
+use Rattle.eon_escape.specs.Views.{readsBy}
+use Rattle.eon_unescape.specs.Views.{kept, NextIs}
+use Rattle.eon_strings.specs.Views.{modeOf, content, marked}
 use Rattle.eon_laws.proofs.Facts.{clash}
-use Rattle.eon_strings.proofs.Kept.{kept-ascii}
-use Rattle.eon_strings.specs.declared.Mode.{Mode}
-use Rattle.eon_strings.specs.declared.Mode.the-variants.{Literal, Plain}
+use Rattle.eon_unescape.proofs.Kept.{kept-ascii}
+use Rattle.eon_escape.specs.declared.Mode.{Mode}
+use Rattle.eon_escape.specs.declared.Mode.the-variants.{Literal, Plain}
+use native.Mathlib.Decide.{decLe}
+use lib.Seq.{drop-nil, take-nil}
+use Rattle.eon_strings.proofs.Bytes.{and-true, and-false}
+
+-- the next m characters
+module _ (s : List ℕ) (i c e n m : ℕ) (x : NextIs s i c e) (l : n ≡ suc m) where
+  pub drop-next : drop n (kept s i) ≡ drop m (kept s e)
+  drop-next = go (decLe e i)
+    where
+      go : Dec (e ≤ i) → drop n (kept s i) ≡ drop m (kept s e)
+      go (yes h) =
+          let y : e ≡ i = omega (arith, x .onward) in
+          let z : kept s i ≡ [] = x .none-left y in
+          rw (l, y, z) (sym (drop-nil m))
+      go (no h) = rw (l, x .one-more λ y. h (omega arith))
+
+  pub quote-next : (q : ℕ) → (e ≡ i → ⊥) → c ≡ q → eqList (take n (kept s i)) (replicate n q) ≡ eqList (take m (kept s e)) (replicate m q)
+  quote-next q h k = rw (l, x .one-more h) (and-true (eqb c q) (eqList (take m (kept s e)) (replicate m q)) (eq-eqb c q k))
+
+  pub quote-other : (q : ℕ) → (e ≡ i → ⊥) → (c ≡ q → ⊥) → eqList (take n (kept s i)) (replicate n q) ≡ false
+  quote-other q h k = rw (l, x .one-more h) (and-false (eqb c q) (eqList (take m (kept s e)) (replicate m q)) (ne-eqb c q k))
+
+  pub quote-none : (q : ℕ) → e ≡ i → eqList (take n (kept s i)) (replicate n q) ≡ false
+  quote-none q h = rw (x .none-left h, take-nil n, l)
 
 module _ (u : List ℕ) (q n : ℕ) where
   pub open-mark : endsWith (replicate n q) u ≡ false → marked q n u ≡ fault 18

@@ -1,8 +1,8 @@
 -- The outcome of the whole call, case by case.
 use mathlib.Core.Path.{_≡_, refl, sym, ap, _∙_, subst}
-use mathlib.Core.Bool.{Bool, true, false}
+use mathlib.Core.Bool.{true, false}
 use mathlib.Core.List.{List, []}
-use Prim.Native.Nat.{ℕ, _-_, _≤_, _<_}
+use Prim.Native.Nat.{ℕ, _≤_, _<_}
 use native.Mathlib.Omega.{arith}
 use native.Mathlib.Nat.{zero-add}
 use borrow.Author.Tests.{le-leb, lt-leb}
@@ -16,7 +16,8 @@ use Rattle.eon_spec.specs.Parse.{refusal}
 use Rattle.eon_spec.specs.Calls.{Outcome, done, refusedWith, After, after, Part, partOf, place, nowhere, checked, fill, written, isPart, opening, handedBack, unescapedOutcome, unquoteCall}
 use Rattle.eon_spec.specs.declared.Which.the-variants.{Quoted, Scratch}
 use Rattle.eon_laws.proofs.Checked.{checked-long, checked-bad, checked-good, good-text}
-use Rattle.eon_strings.specs.Views.{kept, Reads, ContentsIs, handed, placedCall, scratchCall}
+use Rattle.eon_unescape.specs.Views.{kept, Reads}
+use Rattle.eon_strings.specs.Views.{ContentsIs, handed, placedCall, scratchCall}
 use Rattle.eon_strings.specs.declared.Contents.{Contents}
 
 module _ (old : List ℕ) where

@@ -2,7 +2,7 @@
 -- Assumes nothing.
 use borrow.Author.Needs.{needs}
 use native.Mathlib.Omega.{arith}
-use Rattle.eon_strings.proofs.Places.{Back, back-start, back-found, back-over, back-return, back-quote, back-other}
+use Rattle.eon_strings.proofs.Ends.{Back, back-start, back-found, back-over, back-return, back-quote, back-other}
 use Rattle.eon_strings.proofs.closing.Statement.{statement}
 use Rattle.eon_strings.proofs.closing.Tie as tie
 

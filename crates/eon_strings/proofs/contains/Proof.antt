@@ -6,7 +6,7 @@ use mathlib.Core.Path.{_≡_, refl, sym, _∙_}
 use Prim.Native.Nat.{_-_, _≤_}
 use lib.ListN.{length, drop}
 use Rattle.eon_spec.specs.Base.{elem}
-use Rattle.eon_strings.proofs.Bytes.{elem-step, elem-stop, elem-end}
+use Rattle.eon_escape.proofs.Lists.{elem-step, elem-stop, elem-end}
 use Rattle.eon_strings.proofs.contains.Statement.{statement}
 use Rattle.eon_strings.proofs.contains.Tie as tie
 

@@ -4,7 +4,8 @@ use borrow.Author.Needs.{needs}
 use borrow.Author.Tests.{not-true, not-false}
 use native.Mathlib.Omega.{arith}
 use mathlib.Core.Path.{sym, _∙_}
-use Rattle.eon_strings.specs.Views.{kept, between, marked}
+use Rattle.eon_unescape.specs.Views.{kept, between}
+use Rattle.eon_strings.specs.Views.{marked}
 use Rattle.eon_strings.proofs.Marks.{open-mark, closed-mark, one-literal, one-basic, three-literal, three-basic}
 use Rattle.eon_strings.proofs.Whole.{contents-as}
 use Rattle.eon_strings.proofs.in_marks.Statement.{statement}

@@ -5,7 +5,8 @@ use native.Mathlib.Omega.{arith}
 use mathlib.Core.Path.{refl, sym, ap, _∙_}
 use Prim.Native.Nat.{ℕ}
 use mathlib.Core.List.{List}
-use Rattle.eon_strings.specs.Views.{kept, marked}
+use Rattle.eon_unescape.specs.Views.{kept}
+use Rattle.eon_strings.specs.Views.{marked}
 use Rattle.eon_spec.specs.Unquote.{unquoteChars}
 use Rattle.eon_strings.proofs.Marks.{first-mark, second-mark, third-mark, fourth-mark, no-mark, no-single}
 use Rattle.eon_strings.proofs.Whole.{contents-as}

@@ -5,7 +5,7 @@ use native.Mathlib.Omega.{arith}
 use mathlib.Core.Path.{sym, _∙_}
 use Prim.Native.Nat.{_-_}
 use Rattle.eon_spec.specs.Unquote.{isLetter}
-use Rattle.eon_strings.proofs.Bytes.{or-true, or-false}
+use Rattle.eon_escape.proofs.Lists.{or-true, or-false}
 use Rattle.eon_strings.proofs.is_letter_or_digit.Statement.{statement}
 use Rattle.eon_strings.proofs.is_letter_or_digit.Tie as tie
 

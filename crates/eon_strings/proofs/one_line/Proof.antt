@@ -3,9 +3,10 @@
 use borrow.Author.Needs.{needs}
 use native.Mathlib.Omega.{arith}
 use mathlib.Core.Path.{sym, _∙_}
-use Rattle.eon_strings.specs.Views.{kept, between, readsBy}
+use Rattle.eon_escape.specs.Views.{readsBy}
+use Rattle.eon_unescape.specs.Views.{kept, between}
 use Rattle.eon_strings.proofs.Marks.{feed, no-feed}
-use Rattle.eon_strings.proofs.Runs.{feed-byte}
+use Rattle.eon_strings.proofs.Parts.{feed-byte}
 use Rattle.eon_strings.proofs.one_line.Statement.{statement}
 use Rattle.eon_strings.proofs.one_line.Tie as tie
 

@@ -4,10 +4,11 @@ use native.Mathlib.Omega.{arith}
 use mathlib.Core.Path.{sym, ap, _∙_}
 use Rattle.eon_spec.specs.Utf8.{decode}
 use Rattle.eon_spec.specs.Unquote as unquoting
-use Rattle.eon_strings.specs.Views.{kept, between, readsBy, placedCall}
-use Rattle.eon_strings.proofs.Places.{length-between}
-use Rattle.eon_strings.proofs.Runs.{part-length, part-value}
-use Rattle.eon_strings.proofs.Writes.{mode-good}
+use Rattle.eon_escape.specs.Views.{readsBy}
+use Rattle.eon_unescape.specs.Views.{kept, between}
+use Rattle.eon_strings.specs.Views.{placedCall}
+use Rattle.eon_unescape.proofs.Places.{length-between}
+use Rattle.eon_strings.proofs.Parts.{part-length, part-value, mode-good}
 use Rattle.eon_strings.proofs.Whole.{part-is, scratch-is}
 use Rattle.eon_strings.proofs.placed.Statement.{statement}
 use Rattle.eon_strings.proofs.placed.Tie as tie

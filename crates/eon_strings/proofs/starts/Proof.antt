@@ -5,9 +5,9 @@ use native.Mathlib.Omega.{arith}
 use mathlib.Core.Path.{_≡_, refl, sym, ap, _∙_}
 use Prim.Native.Nat.{ℕ, _-_, _≤_}
 use lib.ListN.{length, drop, take, replicate}
-use Rattle.eon_strings.specs.Views.{kept, Formed}
+use Rattle.eon_unescape.specs.Views.{kept, Formed}
 use Rattle.eon_spec.specs.Base.{eqList}
-use Rattle.eon_strings.proofs.Kept.{drop-next, quote-next, quote-other, quote-none}
+use Rattle.eon_strings.proofs.Marks.{drop-next, quote-next, quote-other, quote-none}
 use Rattle.eon_strings.proofs.starts.Statement.{statement}
 use Rattle.eon_strings.proofs.starts.Tie as tie
 

@@ -4,7 +4,7 @@ use native.Mathlib.Omega.{arith}
 use mathlib.Core.Path.{_≡_, sym, _∙_}
 use lib.ListN.{length}
 use Rattle.eon_spec.specs.Unquote.{unquoteChars}
-use Rattle.eon_strings.specs.Views.{kept}
+use Rattle.eon_unescape.specs.Views.{kept}
 use Rattle.eon_strings.proofs.Whole.{long-refused, bad-refused, good-is, fault-refused, text-placed, contents-at}
 use Rattle.eon_strings.proofs.unescape_and_unquote.Statement.{statement}
 use Rattle.eon_strings.proofs.unescape_and_unquote.Tie as tie

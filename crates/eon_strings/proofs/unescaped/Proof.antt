@@ -1,7 +1,8 @@
 -- The value is measured first; what is written is known to fit.
 use borrow.Author.Needs.{needs}
 use native.Mathlib.Omega.{arith}
-use Rattle.eon_strings.specs.Views.{kept, readsBy}
+use Rattle.eon_escape.specs.Views.{readsBy}
+use Rattle.eon_unescape.specs.Views.{kept}
 use Rattle.eon_strings.proofs.Whole.{measured-fault, measured-room, is-written}
 use Rattle.eon_strings.proofs.unescaped.Statement.{statement}
 use Rattle.eon_strings.proofs.unescaped.Tie as tie

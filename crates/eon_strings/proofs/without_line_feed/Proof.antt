@@ -2,9 +2,9 @@
 -- Assumes nothing.
 use borrow.Author.Needs.{needs}
 use Prim.Native.Nat.{_+_}
-use Rattle.eon_strings.specs.Views.{kept, between}
+use Rattle.eon_unescape.specs.Views.{kept, between}
 use Rattle.eon_strings.proofs.Marks.{drop-none, drop-feed, drop-other}
-use Rattle.eon_strings.proofs.Places.{next-inside, next-between}
+use Rattle.eon_strings.proofs.Ends.{next-inside, next-between}
 use Rattle.eon_strings.proofs.without_line_feed.Statement.{statement}
 use Rattle.eon_strings.proofs.without_line_feed.Tie as tie
 

@@ -1,0 +1,4 @@
+pub mod Kept
+pub mod Writes
+pub mod Places
+pub mod Runs
