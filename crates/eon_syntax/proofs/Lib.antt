@@ -1,3 +1,1 @@
 pub mod Checks
-pub mod Desks
-pub mod OneCall

@@ -218,7 +218,7 @@ module _ (s tb : List ℕ) where
 
 -- ---- what a finished table says
 
-refusal-done : {A B : Type 0} (r : Refusal) (a : A) → refusedWith r ≡ done a → B
+pub refusal-done : {A B : Type 0} (r : Refusal) (a : A) → refusedWith r ≡ done a → B
 refusal-done r a e = let z : _≡_ {A = ℕ} 0 1 = cc in absurd (omega arith)
 
 read-checked : (s : List ℕ) (t : TokenTree) → readText s ≡ done t → (isUtf8 s ≡ true) × (parse s ≡ parsed t)
@@ -238,16 +238,32 @@ read-checked s t e = go (ltb 65535 (length s)) refl
     go false p = text (isUtf8 s) refl p
 
 module _ (s tb : List ℕ) where
-  is-finished : (t : TokenTree) → readText s ≡ done t → isFinished tb t ≡ true → readFinished s tb ≡ done t → Finished s tb (length (treeRecords t)) t
-  unfolding isFinished
-  is-finished t e f d =
+  -- the text is read, and the table begins with the tree's words
+  pub finished-words : (t : TokenTree) → readFinished s tb ≡ done t → (readText s ≡ done t) × (take (length (words (treeRecords t))) tb ≡ words (treeRecords t))
+  unfolding readFinished isFinished
+  finished-words t e = go (readText s) refl e
+    where
+      go : (x : Outcome TokenTree) → readText s ≡ x → then x (λ u. elim (isFinished tb u) [ true ↦ done u | false ↦ refusedWith (nowhere 15) ]) ≡ done t → (readText s ≡ done t) × (take (length (words (treeRecords t))) tb ≡ words (treeRecords t))
+      go (refusedWith r) p f = refusal-done r t f
+      go (done u) p f = same (isFinished tb u) refl f
+        where
+          same : (b : Bool) → isFinished tb u ≡ b → elim b as (λ x. Outcome TokenTree) [ true ↦ done u | false ↦ refusedWith (nowhere 15) ] ≡ done t → (readText s ≡ done t) × (take (length (words (treeRecords t))) tb ≡ words (treeRecords t))
+          same true q g =
+              let z : u ≡ t = cc in
+              (p ∙ ap done z, list-eq (take (length (words (treeRecords t))) tb) (words (treeRecords t)) (ap (isFinished tb) (sym z) ∙ q))
+          same false q g = refusal-done _ t g
+
+  -- from the definition's outcome
+  pub read-finished : (t : TokenTree) → readFinished s tb ≡ done t → Finished s tb (length (treeRecords t)) t
+  read-finished t e =
       let w = words (treeRecords t) in
-      let r = read-checked s t e in
-      let q : take (length w) tb ≡ w = list-eq (take (length w) tb) w f in
+      let x = finished-words t e in
+      let r = read-checked s t (x .0) in
+      let q : take (length w) tb ≡ w = x .1 in
       let a : recordsOf tb 0 (length (treeRecords t)) ≡ treeRecords t = records-front tb (treeRecords t) q in
       let m : length (treeRecords t) ≡ treeSize t = tree-size t in
       record {
-        read = d;
+        read = e;
         utf8 = r .0;
         parses = r .1;
         count = refl;
@@ -255,19 +271,6 @@ module _ (s tb : List ℕ) where
         records = a;
         holds = tree-at s tb t (length (treeRecords t)) 0 (tree-fits s (r .0) t (r .1)) (records-at tb 0 (treeRecords t) a) (omega arith) (clear-end s tb (length (treeRecords t)) (0 + treeSize t) (omega arith));
       }
-
-  -- from the definition's outcome
-  pub read-finished : (t : TokenTree) → readFinished s tb ≡ done t → Finished s tb (length (treeRecords t)) t
-  unfolding readFinished
-  read-finished t e = go (readText s) refl e
-    where
-      go : (x : Outcome TokenTree) → readText s ≡ x → then x (λ u. elim (isFinished tb u) [ true ↦ done u | false ↦ refusedWith (nowhere 15) ]) ≡ done t → Finished s tb (length (treeRecords t)) t
-      go (refusedWith r) p f = refusal-done r t f
-      go (done u) p f = same (isFinished tb u) refl f
-        where
-          same : (b : Bool) → isFinished tb u ≡ b → elim b as (λ x. Outcome TokenTree) [ true ↦ done u | false ↦ refusedWith (nowhere 15) ] ≡ done t → Finished s tb (length (treeRecords t)) t
-          same true q g = let z : u ≡ t = cc in is-finished t (p ∙ ap done z) (ap (isFinished tb) (sym z) ∙ q) e
-          same false q g = refusal-done _ t g
 
   -- from the answer of `finished`: n records
   pub finished-done : (n : ℕ) → done n ≡ then (readFinished s tb) (λ t. done (length (treeRecords t))) → SomeFinished s tb n

@@ -78,7 +78,7 @@ fn write_answer(answer: Answer, out: &[u8]) -> bool {
 fn lay_out(text: &[u8]) -> bool {
     let mut table = [0u32; TABLE_WORDS];
     let mut out = [0u8; OUT_BYTES];
-    let run = eon_syntax::run(text, &mut table, &mut out);
+    let run = eon_runs::run(text, &mut table, &mut out);
     let read = run.read;
     if let Answer::Refused(r) = read {
         return write_refusal(r);

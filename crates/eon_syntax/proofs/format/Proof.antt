@@ -8,37 +8,30 @@ use Rattle.eon_syntax.proofs.format.Tie as tie
 use Rattle.eon_syntax.proofs.format.Reads as reads
 use Rattle.eon_syntax.proofs.format.Lts as lts
 use Rattle.eon_format.proofs.format_finished.Reads as format-finished-reads
-use Rattle.eon_format.proofs.good_settings.Reads as good-settings-reads
+use Rattle.eon_settings.proofs.check.good_settings.Reads as good-settings-reads
 use Rattle.eon_parse.proofs.finished.Reads as finished-reads
 use Rattle.eon_spec.proofs.Refusal.new.Reads as new-reads
 
--- src/lib.rt:21:9
 good-settings-requires : tie.Need-good-settings-requires
 good-settings-requires c κs = search needs
 
--- src/lib.rt:22:32
 new-requires : tie.Need-new-requires
 new-requires c κs = search needs
 
--- src/lib.rt:22:9
 returns : tie.Need-returns
 returns c =
     let args = c .before .before .before .before .before .before .args in
     settings-refused (args .text .now) (args .table .now) (args .options) (args .out .now) (c .new .result) (c .new .ensures) (sym (c .before .before .good-settings .ensures) ∙ not-true _ (c .before .if1 .taken))
 
--- src/lib.rt:24:11
 finished-requires : tie.Need-finished-requires
 finished-requires c κs = search needs
 
--- src/lib.rt:25:25
 enum-known-r : tie.Need-enum-known-r
 enum-known-r c = search needs
 
--- src/lib.rt:26:22
 enum-known-n : tie.Need-enum-known-n
 enum-known-n c = search needs
 
--- src/lib.rt:26:28
 format-finished-requires : tie.Need-format-finished-requires
 format-finished-requires c κs =
     let args = c .before .before .before .before .before .before .before .before .before .before .args in
@@ -47,7 +40,6 @@ format-finished-requires c κs =
     let finished = c .before .before .before .before .finished in
     (sym (good-settings .ensures) ∙ not-false _ (if1 .left), text-finished (args .text .now) (args .table .now) (finished .result) (finished .ensures) _ (c .before .before .n .given .1))
 
--- src/lib.rt:18:1
 returns-2 : tie.Need-returns-2
 returns-2 c =
     let args = c .before .before .before .before .before .before .before .before .before .args in
@@ -56,11 +48,9 @@ returns-2 c =
     let finished = c .before .before .before .finished in
     text-refused (args .text .now) (args .table .now) (finished .result) (finished .ensures) (args .options) (args .out .now) _ (c .before .r .given .1) (sym (good-settings .ensures) ∙ not-false _ (if1 .left))
 
--- src/lib.rt:18:1
 same-length : tie.Need-same-length
 same-length c = search needs
 
--- src/lib.rt:18:1
 returns-3 : tie.Need-returns-3
 returns-3 c = search needs
 

@@ -1,10 +1,10 @@
 -- 16 first, then the refusals of the text, then layout by the table just filled.
 use mathlib.Core.Path.{sym, _∙_}
 use borrow.Author.Tests.{not-true, not-false}
-use Rattle.eon_syntax.proofs.OneCall.{read-done, read-refused, settings-first, text-second}
+use Rattle.eon_reformat.proofs.OneCall.{read-done, read-refused, settings-first, text-second}
 use borrow.Author.Needs.{needs}
-use Rattle.eon_syntax.proofs.reformatting.reformat_in.Statement.{statement}
-use Rattle.eon_syntax.proofs.reformatting.reformat_in.Tie as tie
+use Rattle.eon_reformat.proofs.reformat_in.Statement.{statement}
+use Rattle.eon_reformat.proofs.reformat_in.Tie as tie
 
 good-settings-requires : tie.Need-good-settings-requires
 good-settings-requires c κs = search needs

@@ -1,20 +1,20 @@
 -- An overlong text is refused as its beginning is; a text of at most 65535 bytes has at most 65536 records.
-use mathlib.Core.Path.{sym, _∙_}
+use mathlib.Core.Path.{sym}
 use Prim.Native.Nat.{ℕ, _<_}
 use native.Mathlib.Omega.{arith}
 use lib.ListN.{length}
 use lib.Seq.{length-take-le}
 use denote.Ref.{now}
 use borrow.Author.Needs.{needs}
-use Rattle.eon_syntax.proofs.OneCall.{overlong}
+use Rattle.eon_reformat.proofs.OneCall.{overlong}
 use borrow.Fn.Kinds.{In}
 use borrow.Fn.PlainCycle.{Measures, is, falls, and}
-use Rattle.eon_syntax.proofs.reformatting.in_large.Reads as in-large
-use Rattle.eon_syntax.proofs.reformatting.in_large.Kinds as in-large-kinds
-use Rattle.eon_syntax.proofs.reformatting.+in_large.Lts-in_large as in-large-lts
-use Rattle.eon_syntax.proofs.reformatting.reformat_in.Reads as reformat-in-reads
-use Rattle.eon_syntax.proofs.reformatting.+in_large.{statement}
-use Rattle.eon_syntax.proofs.reformatting.+in_large.Tie.{close}
+use Rattle.eon_reformat.proofs.in_large.Reads as in-large
+use Rattle.eon_reformat.proofs.in_large.Kinds as in-large-kinds
+use Rattle.eon_reformat.proofs.+in_large.Lts-in_large as in-large-lts
+use Rattle.eon_reformat.proofs.reformat_in.Reads as reformat-in-reads
+use Rattle.eon_reformat.proofs.+in_large.{statement}
+use Rattle.eon_reformat.proofs.+in_large.Tie.{close}
 
 abbrev μ-in-large : Measures 3 in-large-kinds.ps ℕ
 μ-in-large κs a = length (now (a .0))
@@ -52,7 +52,7 @@ in-large-same-length-2 t c = search needs
 in-large-returns : (t : ℕ) → in-large-lts.Need-returns (in-large-calls t) (in-large-at t) in-large.Post
 in-large-returns t c =
     let a = c .before .before .before .before .before .before .before .before .before .before .before .before .args in
-    c .before .before .before .before .in-large .ensures ∙ overlong (now (a .text)) (now (a .table)) (a .options) (now (a .out)) (c .before .before .before .before .before .before .before .before .if1 .taken)
+    overlong (now (a .text)) (now (a .table)) (a .options) (now (a .out)) _ (c .before .before .before .before .before .before .before .before .if1 .taken) (c .before .before .before .before .in-large .ensures)
 
 in-large-slice-aggregate-reformat-in : (t : ℕ) → in-large-lts.Need-slice-aggregate-reformat-in (in-large-calls t) (in-large-at t) in-large.Post
 in-large-slice-aggregate-reformat-in t c = search needs

@@ -2,44 +2,37 @@
 use Prim.Native.Nat.{_≤_, _*_}
 use lib.ListN.{length}
 use native.Mathlib.Omega.{arith}
-use Rattle.eon_syntax.proofs.OneCall.{words-within, table-short, out-short, both-written}
+use Rattle.eon_reformat.proofs.OneCall.{words-within, table-short, out-short, both-written}
 use borrow.Author.Needs.{needs}
-use Rattle.eon_syntax.proofs.reformatting.lay_out.Statement.{statement}
-use Rattle.eon_syntax.proofs.reformatting.lay_out.Tie as tie
-use Rattle.eon_syntax.proofs.reformatting.lay_out.Reads as reads
-use Rattle.eon_syntax.proofs.reformatting.lay_out.Lts as lts
+use Rattle.eon_reformat.proofs.lay_out.Statement.{statement}
+use Rattle.eon_reformat.proofs.lay_out.Tie as tie
+use Rattle.eon_reformat.proofs.lay_out.Reads as reads
+use Rattle.eon_reformat.proofs.lay_out.Lts as lts
 use Rattle.eon_format.proofs.format_finished.Reads as format-finished-reads
 use Rattle.eon_spec.proofs.Refusal.new.Reads as new-reads
-use Rattle.eon_syntax.proofs.reformatting.copy.Reads as copy-reads
+use Rattle.eon_reformat.proofs.copy.Reads as copy-reads
 
--- src/reformatting.rt:37:32
 new-requires : tie.Need-new-requires
 new-requires c κs = search needs
 
--- src/reformatting.rt:37:9
 returns : tie.Need-returns
 returns c =
     let args = c .before .before .before .before .before .before .args in
     let pre = c .before .before .before .before .before .before .pre in
     table-short (args .text .now) (args .work .now) (args .table .now) (args .options) (args .out .now) (args .n) (pre .0) (pre .1) (c .new .result) (c .new .ensures) (omega (arith, c .before .if1 .taken))
 
--- src/reformatting.rt:39:11
 format-finished-requires : tie.Need-format-finished-requires
 format-finished-requires c κs = search needs
 
--- src/reformatting.rt:40:25
 enum-known-r : tie.Need-enum-known-r
 enum-known-r c = search needs
 
--- src/reformatting.rt:41:22
 enum-known-bytes : tie.Need-enum-known-bytes
 enum-known-bytes c = search needs
 
--- src/reformatting.rt:42:24
 mul-copy : tie.Need-mul-copy
 mul-copy c = search needs
 
--- src/reformatting.rt:42:13
 copy-requires : tie.Need-copy-requires
 copy-requires c κs =
     let args = c .before .before .before .before .before .before .before .before .before .before .before .before .before .args in
@@ -47,11 +40,9 @@ copy-requires c κs =
     let if1 = c .before .before .before .before .before .before .before .before .if1 in
     (words-within (args .text .now) (args .work .now) (args .table .now) (args .options) (args .out .now) (args .n) (pre .0) (pre .1), omega (arith, if1 .left))
 
--- src/reformatting.rt:25:1
 same-length : tie.Need-same-length
 same-length c = search needs
 
--- src/reformatting.rt:25:1
 returns-2 : tie.Need-returns-2
 returns-2 c =
     let args = c .before .before .before .before .before .before .before .before .before .before .before .before .args in
@@ -61,15 +52,12 @@ returns-2 c =
     let h : _≤_ (5 * args .n) (length (args .table .now)) = omega (arith, if1 .left) in
     out-short (args .text .now) (args .work .now) (args .table .now) (args .options) (args .out .now) (args .n) (pre .0) (pre .1) (format-finished .result) _ (format-finished .last .1 .1 .1 .1 .0) h (c .before .r .given .1) (format-finished .ensures)
 
--- src/reformatting.rt:25:1
 same-length-2 : tie.Need-same-length-2
 same-length-2 c = search needs
 
--- src/reformatting.rt:25:1
 same-length-3 : tie.Need-same-length-3
 same-length-3 c = search needs
 
--- src/reformatting.rt:25:1
 returns-3 : tie.Need-returns-3
 returns-3 c =
     let args = c .before .before .before .before .before .before .before .before .before .before .before .before .before .before .before .before .args in

@@ -10,6 +10,26 @@ ghost use Rattle.eon_spec.specs.Calls.{outcomeOf, done, readFinished, goodSetti
 use eon_spec::Answer;
 use eon_spec::FormatOptions;
 use eon_spec::Refusal;
+use eon_spec::error::BAD_SETTINGS;
+use eon_spec::error::NO_SPACE;
+
+const RECORD_WORDS: usize = 5;
+
+// How long a text may be for each frame, which has room for a record more than the text has bytes. The last is document 01's own limit.
+const SMALL_TEXT: usize = 2047;
+
+const MEDIUM_TEXT: usize = 16383;
+
+const LARGE_TEXT: usize = 65535;
+
+const SMALL_WORDS: usize = RECORD_WORDS * (SMALL_TEXT + 1);
+
+const MEDIUM_WORDS: usize = RECORD_WORDS * (MEDIUM_TEXT + 1);
+
+const LARGE_WORDS: usize = RECORD_WORDS * (LARGE_TEXT + 1);
+
+// A text of this length is refused by its length alone.
+const OVERLONG_TEXT: usize = LARGE_TEXT + 1;
 
 // The first n words of one table into another.
 fn copy(from: &[u32], n: usize, to: &mut [u32])
@@ -35,13 +55,13 @@ fn lay_out(
     requires { ⌜ (goodSettings options ≡ true) × ((t : TokenTree) × (readFinished (now text) (now work) ≡ done t) × (n ≡ length (treeRecords t))) ⌝ }
     ensures { λ r. ⌜ afterBoth (outcomeOf r) (now (table .exit)) (now (out .exit)) ≡ reformatCall (now (text .entry)) (now (table .entry)) options (now (out .entry)) ⌝ }
 {
-    if table.len() / 5 < n {
-        return Answer::Refused(Refusal::new(14, 0));
+    if table.len() / RECORD_WORDS < n {
+        return Answer::Refused(Refusal::new(NO_SPACE, 0));
     }
     match eon_format::format_finished(text, work, options, n, out) {
         Answer::Refused(r) => Answer::Refused(r),
         Answer::Done(bytes) => {
-            copy(work, 5 * n, table);
+            copy(work, RECORD_WORDS * n, table);
             Answer::Done(bytes)
         }
     }
@@ -58,8 +78,8 @@ fn reformat_in(
     requires { ⌜ (length (now text) ≤ 65535 → 5 * (length (now text) + 1) ≤ length (now work)) ⌝ }
     ensures { λ r. ⌜ afterBoth (outcomeOf r) (now (table .exit)) (now (out .exit)) ≡ reformatCall (now (text .entry)) (now (table .entry)) options (now (out .entry)) ⌝ }
 {
-    if !eon_format::good_settings(options) {
-        return Answer::Refused(Refusal::new(16, 0));
+    if !eon_settings::good_settings(options) {
+        return Answer::Refused(Refusal::new(BAD_SETTINGS, 0));
     }
     match eon_parse::read_once(text, work) {
         Answer::Refused(r) => Answer::Refused(r),
@@ -73,7 +93,7 @@ fn in_small(text: &[u8], table: &mut [u32], options: FormatOptions, out: &mut [u
     requires { ⌜ length (now text) ≤ 2047 ⌝ }
     ensures { λ r. ⌜ afterBoth (outcomeOf r) (now (table .exit)) (now (out .exit)) ≡ reformatCall (now (text .entry)) (now (table .entry)) options (now (out .entry)) ⌝ }
 {
-    let mut work = [0u32; 10240];
+    let mut work = [0u32; SMALL_WORDS];
     reformat_in(text, &mut work, table, options, out)
 }
 
@@ -82,10 +102,10 @@ fn in_medium(text: &[u8], table: &mut [u32], options: FormatOptions, out: &mut [
     requires { ⌜ length (now text) ≤ 16383 ⌝ }
     ensures { λ r. ⌜ afterBoth (outcomeOf r) (now (table .exit)) (now (out .exit)) ≡ reformatCall (now (text .entry)) (now (table .entry)) options (now (out .entry)) ⌝ }
 {
-    if 16383 < text.len() {
-        return in_medium(&text[..16383], table, options, out);
+    if MEDIUM_TEXT < text.len() {
+        return in_medium(&text[..MEDIUM_TEXT], table, options, out);
     }
-    let mut work = [0u32; 81920];
+    let mut work = [0u32; MEDIUM_WORDS];
     reformat_in(text, &mut work, table, options, out)
 }
 
@@ -93,10 +113,10 @@ fn in_medium(text: &[u8], table: &mut [u32], options: FormatOptions, out: &mut [
 fn in_large(text: &[u8], table: &mut [u32], options: FormatOptions, out: &mut [u8]) -> Answer
     ensures { λ r. ⌜ afterBoth (outcomeOf r) (now (table .exit)) (now (out .exit)) ≡ reformatCall (now (text .entry)) (now (table .entry)) options (now (out .entry)) ⌝ }
 {
-    if 65536 < text.len() {
-        return in_large(&text[..65536], table, options, out);
+    if OVERLONG_TEXT < text.len() {
+        return in_large(&text[..OVERLONG_TEXT], table, options, out);
     }
-    let mut work = [0u32; 327680];
+    let mut work = [0u32; LARGE_WORDS];
     reformat_in(text, &mut work, table, options, out)
 }
 
@@ -104,10 +124,10 @@ fn in_large(text: &[u8], table: &mut [u32], options: FormatOptions, out: &mut [u
 pub fn reformat(text: &[u8], table: &mut [u32], options: FormatOptions, out: &mut [u8]) -> Answer
     ensures { λ r. ⌜ afterBoth (outcomeOf r) (now (table .exit)) (now (out .exit)) ≡ reformatCall (now (text .entry)) (now (table .entry)) options (now (out .entry)) ⌝ }
 {
-    if text.len() <= 2047 {
+    if text.len() <= SMALL_TEXT {
         return in_small(text, table, options, out);
     }
-    if text.len() <= 16383 {
+    if text.len() <= MEDIUM_TEXT {
         return in_medium(text, table, options, out);
     }
     in_large(text, table, options, out)

@@ -7,53 +7,43 @@ use lib.ListN.{length, take}
 use lib.Seq.{length-take-le}
 use Rattle.eon_spec.specs.Runs.{IsRun, eveningText}
 use Rattle.eon_round_trip.proofs.Runs as round
-use Rattle.eon_syntax.proofs.Desks.{evening-part, run-on}
-use Rattle.eon_syntax.proofs.two_runs.Statement.{statement}
-use Rattle.eon_syntax.proofs.two_runs.Tie as tie
-use Rattle.eon_syntax.proofs.two_runs.Reads as reads
-use Rattle.eon_syntax.proofs.two_runs.Lts as lts
-use Rattle.eon_syntax.proofs.run.Reads as run-reads
-use Rattle.eon_syntax.proofs.wrote_len.Reads as wrote-len-reads
+use Rattle.eon_runs.proofs.Desks.{evening-part, run-on}
+use Rattle.eon_runs.proofs.two_runs.Statement.{statement}
+use Rattle.eon_runs.proofs.two_runs.Tie as tie
+use Rattle.eon_runs.proofs.two_runs.Reads as reads
+use Rattle.eon_runs.proofs.two_runs.Lts as lts
+use Rattle.eon_runs.proofs.run.Reads as run-reads
+use Rattle.eon_runs.proofs.wrote_len.Reads as wrote-len-reads
 
--- src/lib.rt:95:9
 run-requires : tie.Need-run-requires
 run-requires c κs = search needs
 
--- src/lib.rt:97:9
 wrote-len-requires : tie.Need-wrote-len-requires
 wrote-len-requires c κs = search needs
 
--- src/lib.rt:98:23
 slice-reshare-prefix-run : tie.Need-slice-reshare-prefix-run
 slice-reshare-prefix-run c = search needs
 
--- src/lib.rt:98:23
 slice-aggregate-run : tie.Need-slice-aggregate-run
 slice-aggregate-run c =
     let run = c .before .before .before .before .before .before .run in
     sym (length-take-le (c .before .wrote-len .result) (run .last .1 .1 .0) (c .before .wrote-len .ensures .0))
 
--- src/lib.rt:98:9
 run-requires-2 : tie.Need-run-requires-2
 run-requires-2 c κs = search needs
 
--- src/lib.rt:84:1
 same-length : tie.Need-same-length
 same-length c = search needs
 
--- src/lib.rt:84:1
 same-length-2 : tie.Need-same-length-2
 same-length-2 c = search needs
 
--- src/lib.rt:84:1
 same-length-3 : tie.Need-same-length-3
 same-length-3 c = search needs
 
--- src/lib.rt:84:1
 same-length-4 : tie.Need-same-length-4
 same-length-4 c = search needs
 
--- src/lib.rt:84:1
 returns : tie.Need-returns
 returns c =
     let args = c .before .before .before .before .before .before .before .before .before .before .before .before .before .before .before .before .before .before .before .before .before .args in

@@ -6,11 +6,11 @@ use Prim.Native.Nat.{_≤_, _<_, _-_}
 use native.Mathlib.Omega.{arith}
 use native.Mathlib.Nat.{le-antisymm}
 use lib.ListN.{length, take, drop, getD, set, length-set}
-use Rattle.eon_syntax.proofs.OneCall.{copied-more}
-use Rattle.eon_syntax.proofs.reformatting.copy.Statement.{statement}
-use Rattle.eon_syntax.proofs.reformatting.copy.Tie as tie
-use Rattle.eon_syntax.proofs.reformatting.copy.Reads as reads
-use Rattle.eon_syntax.proofs.reformatting.copy.Lts as lts
+use Rattle.eon_reformat.proofs.OneCall.{copied-more}
+use Rattle.eon_reformat.proofs.copy.Statement.{statement}
+use Rattle.eon_reformat.proofs.copy.Tie as tie
+use Rattle.eon_reformat.proofs.copy.Reads as reads
+use Rattle.eon_reformat.proofs.copy.Lts as lts
 
 abbrev Inv-loop : tie.InvT-loop
 Inv-loop from n to₀ i₀ to i = (i ≤ n) × (to ≡ take i from ++ drop i to₀) × (length to ≡ length to₀)
@@ -18,35 +18,27 @@ Inv-loop from n to₀ i₀ to i = (i ≤ n) × (to ≡ take i from ++ drop i to�
 abbrev μ-loop : tie.MeasureT-loop
 μ-loop from n to₀ i₀ to i = n - i
 
--- src/reformatting.rt:18:5
 loop-holds : tie.Need-loop-holds Inv-loop μ-loop
 loop-holds c = (omega arith, refl, refl)
 
--- src/reformatting.rt:19:17
 mul-to : tie.Need-mul-to Inv-loop μ-loop
 mul-to c = omega arith
 
--- src/reformatting.rt:19:17
 shared-slice-read-to : tie.Need-shared-slice-read-to Inv-loop μ-loop
 shared-slice-read-to c = omega arith
 
--- src/reformatting.rt:19:9
 mul-to-2 : tie.Need-mul-to-2 Inv-loop μ-loop
 mul-to-2 c = omega arith
 
--- src/reformatting.rt:19:9
 slice-write-to : tie.Need-slice-write-to Inv-loop μ-loop
 slice-write-to c = omega arith
 
--- src/reformatting.rt:20:9
 add-i : tie.Need-add-i Inv-loop μ-loop
 add-i c = omega arith
 
--- src/reformatting.rt:18:5
 loop-less : tie.Need-loop-less Inv-loop μ-loop
 loop-less c = omega arith
 
--- src/reformatting.rt:18:5
 loop-again : tie.Need-loop-again Inv-loop μ-loop
 loop-again c =
     let args = c .before .before .before .args in
@@ -56,11 +48,9 @@ loop-again c =
     let k : loop .i < length (args .from .now) = omega (arith, c .before .loop-test .taken, pre) in
     (omega arith, rw (loop .inv .1) (copied-more _ _ _ h k), length-set (loop .to) (loop .i) (getD (args .from .now) (loop .i) 0) ∙ loop .inv .2)
 
--- src/reformatting.rt:13:1
 same-length : tie.Need-same-length Inv-loop μ-loop
 same-length c = c .before .loop .inv .2
 
--- src/reformatting.rt:13:1
 returns : tie.Need-returns Inv-loop μ-loop
 returns c = rw (← le-antisymm (c .before .loop .inv .0) (c .loop-test .left)) (c .before .loop .inv .1)
 

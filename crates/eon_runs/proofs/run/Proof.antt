@@ -1,34 +1,28 @@
 use borrow.Author.Needs.{needs}
-use Rattle.eon_syntax.proofs.Desks.{run-is}
-use Rattle.eon_syntax.proofs.run.Statement.{statement}
-use Rattle.eon_syntax.proofs.run.Tie as tie
-use Rattle.eon_syntax.proofs.run.Reads as reads
-use Rattle.eon_syntax.proofs.run.Lts as lts
+use Rattle.eon_runs.proofs.Desks.{run-is}
+use Rattle.eon_runs.proofs.run.Statement.{statement}
+use Rattle.eon_runs.proofs.run.Tie as tie
+use Rattle.eon_runs.proofs.run.Reads as reads
+use Rattle.eon_runs.proofs.run.Lts as lts
 use Rattle.eon_spec.proofs.FormatOptions.new.Reads as new-reads
 use Rattle.eon_syntax.proofs.format.Reads as format-reads
 use Rattle.eon_syntax.proofs.read.Reads as read-reads
 
--- src/lib.rt:61:9
 read-requires : tie.Need-read-requires
 read-requires c κs = search needs
 
--- src/lib.rt:62:39
 new-requires : tie.Need-new-requires
 new-requires c κs = search needs
 
--- src/lib.rt:62:9
 format-requires : tie.Need-format-requires
 format-requires c κs = search needs
 
--- src/lib.rt:58:1
 same-length : tie.Need-same-length
 same-length c = search needs
 
--- src/lib.rt:58:1
 same-length-2 : tie.Need-same-length-2
 same-length-2 c = search needs
 
--- src/lib.rt:58:1
 returns : tie.Need-returns
 returns c =
     let args = c .before .before .before .before .before .before .before .before .before .before .before .before .before .args in

@@ -6,12 +6,12 @@ use denote.Ref.{now}
 use borrow.Author.Needs.{needs}
 use borrow.Fn.Kinds.{In}
 use borrow.Fn.PlainCycle.{Measures, is, falls, and}
-use Rattle.eon_syntax.proofs.reformatting.in_medium.Reads as in-medium
-use Rattle.eon_syntax.proofs.reformatting.in_medium.Kinds as in-medium-kinds
-use Rattle.eon_syntax.proofs.reformatting.+in_medium.Lts-in_medium as in-medium-lts
-use Rattle.eon_syntax.proofs.reformatting.reformat_in.Reads as reformat-in-reads
-use Rattle.eon_syntax.proofs.reformatting.+in_medium.{statement}
-use Rattle.eon_syntax.proofs.reformatting.+in_medium.Tie.{close}
+use Rattle.eon_reformat.proofs.in_medium.Reads as in-medium
+use Rattle.eon_reformat.proofs.in_medium.Kinds as in-medium-kinds
+use Rattle.eon_reformat.proofs.+in_medium.Lts-in_medium as in-medium-lts
+use Rattle.eon_reformat.proofs.reformat_in.Reads as reformat-in-reads
+use Rattle.eon_reformat.proofs.+in_medium.{statement}
+use Rattle.eon_reformat.proofs.+in_medium.Tie.{close}
 
 abbrev μ-in-medium : Measures 3 in-medium-kinds.ps ℕ
 μ-in-medium κs a = length (now (a .0))

@@ -1,53 +1,42 @@
 -- Each row is a row of its own; the last sentence is of their afternoon runs.
 use borrow.Author.Needs.{needs}
 use Rattle.eon_round_trip.proofs.Runs.{share-text}
-use Rattle.eon_syntax.proofs.two_rows.Statement.{statement}
-use Rattle.eon_syntax.proofs.two_rows.Tie as tie
-use Rattle.eon_syntax.proofs.two_rows.Reads as reads
-use Rattle.eon_syntax.proofs.two_rows.Lts as lts
-use Rattle.eon_syntax.proofs.two_runs.Reads as two-runs-reads
+use Rattle.eon_runs.proofs.two_rows.Statement.{statement}
+use Rattle.eon_runs.proofs.two_rows.Tie as tie
+use Rattle.eon_runs.proofs.two_rows.Reads as reads
+use Rattle.eon_runs.proofs.two_rows.Lts as lts
+use Rattle.eon_runs.proofs.two_runs.Reads as two-runs-reads
 
--- src/lib.rt:124:9
 two-runs-requires : tie.Need-two-runs-requires
 two-runs-requires c κs = search needs
 
--- src/lib.rt:125:9
 two-runs-requires-2 : tie.Need-two-runs-requires-2
 two-runs-requires-2 c κs = search needs
 
--- src/lib.rt:108:1
 same-length : tie.Need-same-length
 same-length c = search needs
 
--- src/lib.rt:108:1
 same-length-2 : tie.Need-same-length-2
 same-length-2 c = search needs
 
--- src/lib.rt:108:1
 same-length-3 : tie.Need-same-length-3
 same-length-3 c = search needs
 
--- src/lib.rt:108:1
 same-length-4 : tie.Need-same-length-4
 same-length-4 c = search needs
 
--- src/lib.rt:108:1
 same-length-5 : tie.Need-same-length-5
 same-length-5 c = search needs
 
--- src/lib.rt:108:1
 same-length-6 : tie.Need-same-length-6
 same-length-6 c = search needs
 
--- src/lib.rt:108:1
 same-length-7 : tie.Need-same-length-7
 same-length-7 c = search needs
 
--- src/lib.rt:108:1
 same-length-8 : tie.Need-same-length-8
 same-length-8 c = search needs
 
--- src/lib.rt:108:1
 returns : tie.Need-returns
 returns c =
     let args = c .before .before .before .before .before .before .before .before .before .before .before .before .before .before .before .before .before .before .before .before .before .before .before .before .before .before .before .before .before .before .before .before .before .before .before .before .args in

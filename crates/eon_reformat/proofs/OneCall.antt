@@ -17,20 +17,17 @@ use Rattle.eon_spec.specs.Base.{eqList}
 use Rattle.eon_spec.specs.Tree.{TokenTree}
 use Rattle.eon_spec.specs.Records.{treeRecords, words}
 use Rattle.eon_spec.specs.Layout.{settingsOf, format}
-use Rattle.eon_spec.specs.Calls.{Outcome, done, refusedWith, then, nowhere, After, after, written, fill, outcomeOf, readText, isFinished, readFinished, goodSettings, checkedSettings, formatCall, AfterBoth, afterBoth, fillBoth, reformatCall}
-use Rattle.eon_laws.proofs.Facts.{true-of, false-of, le-of, list-eq}
+use Rattle.eon_spec.specs.Calls.{Outcome, done, refusedWith, then, nowhere, After, after, written, fill, outcomeOf, readText, readFinished, goodSettings, checkedSettings, formatCall, AfterBoth, afterBoth, fillBoth, reformatCall}
+use Rattle.eon_laws.proofs.Facts.{true-of, false-of, le-of}
 use Rattle.eon_laws.proofs.Records.{words-length}
 use Rattle.eon_parse.specs.Call.{countOf}
+use Rattle.eon_table.proofs.Finished.{refusal-done, finished-words}
 use Rattle.eon_parse.proofs.Calls.{long-text}
 use Rattle.eon_format.proofs.Joined.{formatted}
 
 -- a step of a copy from the front
 pub copied-more : (to from : List ℕ) (i : ℕ) → i < length to → i < length from → set (take i from ++ drop i to) i (getD from i 0) ≡ take (i + 1) from ++ drop (i + 1) to
 copied-more to from i h k = rw add-one (simp zero-add at (paste-suc to 0 from i 0 (omega arith) k))
-
--- a refusal is no answer
-no-answer : {A B : Type 0} (r : Refusal) (a : A) → refusedWith r ≡ done a → B
-no-answer r a e = absurd (let z : _≡_ {A = ℕ} 0 1 = cc in omega arith)
 
 same-answer : {A : Type 0} {a b : Outcome A} {m k : List ℕ} → after a m ≡ after b k → a ≡ b
 same-answer {A} e = ap (λ (x : After A). x .answer) e
@@ -50,7 +47,7 @@ module _ (s work : List ℕ) (a : Answer) (e : outcomeOf a ≡ then (readText s)
   read-done n k h = go (readText s) h (ap outcomeOf (sym k) ∙ e)
     where
       go : (x : Outcome TokenTree) → readFinished s work ≡ x → done n ≡ then x countOf → (t : TokenTree) × (readFinished s work ≡ done t) × (n ≡ length (treeRecords t))
-      go (refusedWith r) f g = no-answer r n (sym g)
+      go (refusedWith r) f g = refusal-done r n (sym g)
       go (done t) f g = (t, f, cc)
 
   pub read-refused : (r : Refusal) → a ≡ Refused r → readText s ≡ refusedWith r
@@ -58,7 +55,7 @@ module _ (s work : List ℕ) (a : Answer) (e : outcomeOf a ≡ then (readText s)
     where
       go : (x : Outcome TokenTree) → refusedWith r ≡ then x countOf → x ≡ refusedWith r
       go (refusedWith q) g = ap refusedWith cc
-      go (done t) g = no-answer r (length (treeRecords t)) g
+      go (done t) g = refusal-done r (length (treeRecords t)) g
 
 -- ---- refusals before layout
 
@@ -71,8 +68,8 @@ unfolding reformatCall checkedSettings fillBoth
 text-second s table o out r e g = rw (g, checkedSettings, e)
 
 -- an overlong text is refused as its beginning is
-pub overlong : (s table : List ℕ) (o : FormatOptions) (out : List ℕ) → 65536 < length s → reformatCall (take 65536 s) table o out ≡ reformatCall s table o out
-overlong s table o out h = go (goodSettings o) refl
+pub overlong : (s table : List ℕ) (o : FormatOptions) (out : List ℕ) (x : AfterBoth) → 65536 < length s → x ≡ reformatCall (take 65536 s) table o out → x ≡ reformatCall s table o out
+overlong s table o out x h e = e ∙ go (goodSettings o) refl
   where
     long : 65535 < length (take 65536 s)
     long = omega (arith, length-take-le 65536 s (omega arith))
@@ -82,21 +79,6 @@ overlong s table o out h = go (goodSettings o) refl
     go false g = sym (settings-first (take 65536 s) table o out _ refl g) ∙ settings-first s table o out _ refl g
 
 -- ---- layout by a finished table
-
-finished-text : (s work : List ℕ) (t : TokenTree) → readFinished s work ≡ done t → (readText s ≡ done t) × (take (length (words (treeRecords t))) work ≡ words (treeRecords t))
-unfolding readFinished isFinished
-finished-text s work t e = go (readText s) refl e
-  where
-    go : (x : Outcome TokenTree) → readText s ≡ x → then x (λ u. elim (isFinished work u) [ true ↦ done u | false ↦ refusedWith (nowhere 15) ]) ≡ done t → (readText s ≡ done t) × (take (length (words (treeRecords t))) work ≡ words (treeRecords t))
-    go (refusedWith r) f h = no-answer r t h
-    go (done u) f h = same (isFinished work u) refl h
-      where
-        same : (b : Bool) → isFinished work u ≡ b → elim b as (λ x. Outcome TokenTree) [ true ↦ done u | false ↦ refusedWith (nowhere 15) ] ≡ done t → (readText s ≡ done t) × (take (length (words (treeRecords t))) work ≡ words (treeRecords t))
-        same true q g =
-            let z : u ≡ t = cc in
-            let p : isFinished work t ≡ true = ap (isFinished work) (sym z) ∙ q in
-            (f ∙ ap done z, list-eq (take (length (words (treeRecords t))) work) (words (treeRecords t)) p)
-        same false q g = no-answer _ t g
 
 -- the words and the bytes, where they fit
 module _ (table out w b : List ℕ) where
@@ -114,7 +96,7 @@ module _ (table out w b : List ℕ) where
     out-refused r out′ e = go (leb (length b) (length out)) refl
       where
         go : (x : Bool) → leb (length b) (length out) ≡ x → afterBoth (refusedWith r) table out′ ≡ fillBoth table out (done (w, b))
-        go true f = no-answer r (length b) (same-answer (rw (f, fill) at e))
+        go true f = refusal-done r (length b) (same-answer (rw (f, fill) at e))
         go false f = let g = rw (f, fill) at e in rw (fits, f, fillBoth, same-answer g, same-memory g)
 
     out-done : (n : ℕ) (out′ : List ℕ) → after (done n) out′ ≡ fill out (done (length b, b)) → afterBoth (done n) (written w table) out′ ≡ fillBoth table out (done (w, b))
@@ -123,7 +105,7 @@ module _ (table out w b : List ℕ) where
       where
         go : (x : Bool) → leb (length b) (length out) ≡ x → afterBoth (done n) (written w table) out′ ≡ fillBoth table out (done (w, b))
         go true f = let g = rw (f, fill) at e in rw (fits, f, fillBoth, same-answer g, same-memory g)
-        go false f = no-answer (nowhere 14) n (sym (same-answer (rw (f, fill) at e)))
+        go false f = refusal-done (nowhere 14) n (sym (same-answer (rw (f, fill) at e)))
 
 module _ (s work table : List ℕ) (o : FormatOptions) (out : List ℕ) (n : ℕ) (g : goodSettings o ≡ true) (i : (t : TokenTree) × (readFinished s work ≡ done t) × (n ≡ length (treeRecords t))) where
   abbrev itsWords : List ℕ
@@ -134,14 +116,14 @@ module _ (s work table : List ℕ) (o : FormatOptions) (out : List ℕ) (n : ℕ
 
   both : fillBoth table out (done (itsWords, itsBytes)) ≡ reformatCall s table o out
   unfolding reformatCall checkedSettings
-  both = rw (g, checkedSettings, finished-text s work (i .0) (i .1) .0)
+  both = rw (g, checkedSettings, finished-words s work (i .0) (i .1) .0)
 
   five : length itsWords ≡ 5 * n
   five = omega (arith, words-length (treeRecords (i .0)), i .2)
 
   -- as many words stand in the table
   pub words-within : 5 * n ≤ length work
-  words-within = omega (arith, five, length-take (length itsWords) work, ap length (finished-text s work (i .0) (i .1) .1))
+  words-within = omega (arith, five, length-take (length itsWords) work, ap length (finished-words s work (i .0) (i .1) .1))
 
   pub table-short : (r : Refusal) → r ≡ nowhere 14 → length table < 5 * n → afterBoth (refusedWith r) table out ≡ reformatCall s table o out
   table-short r e h = rw e (sym (no-table table out itsWords itsBytes (omega (arith, five))) ∙ both)
@@ -152,5 +134,5 @@ module _ (s work table : List ℕ) (o : FormatOptions) (out : List ℕ) (n : ℕ
   pub both-written : (a : Answer) (m : ℕ) (out′ table′ : List ℕ) → 5 * n ≤ length table → a ≡ Done m → after (outcomeOf a) out′ ≡ formatCall s work o out → table′ ≡ take (5 * n) work ++ drop (5 * n) table
       → afterBoth (done m) table′ out′ ≡ reformatCall s table o out
   both-written a m out′ table′ h k e f =
-      let x : table′ ≡ written itsWords table = f ∙ rw (← five, finished-text s work (i .0) (i .1) .1) in
+      let x : table′ ≡ written itsWords table = f ∙ rw (← five, finished-words s work (i .0) (i .1) .1) in
       rw x (out-done table out itsWords itsBytes (omega (arith, five)) m out′ (known k e ∙ sym (formatted s work o out (i .0) g (i .1))) ∙ both)

@@ -1,32 +1,27 @@
 use borrow.Author.Needs.{needs}
 use native.Mathlib.Omega.{arith}
-use Rattle.eon_syntax.proofs.Desks.{part-some, part-all, part-none}
-use Rattle.eon_syntax.proofs.wrote_len.Statement.{statement}
-use Rattle.eon_syntax.proofs.wrote_len.Tie as tie
-use Rattle.eon_syntax.proofs.wrote_len.Reads as reads
-use Rattle.eon_syntax.proofs.wrote_len.Lts as lts
+use Rattle.eon_runs.proofs.Desks.{part-some, part-all, part-none}
+use Rattle.eon_runs.proofs.wrote_len.Statement.{statement}
+use Rattle.eon_runs.proofs.wrote_len.Tie as tie
+use Rattle.eon_runs.proofs.wrote_len.Reads as reads
+use Rattle.eon_runs.proofs.wrote_len.Lts as lts
 
--- src/lib.rt:73:22
 enum-known-written : tie.Need-enum-known-written
 enum-known-written c = search needs
 
--- src/lib.rt:75:17
 returns : tie.Need-returns
 returns c =
     let args = c .before .before .before .before .args in
     (omega arith, λ out l. part-some (args .written) out _ (c .before .before .written .given .1))
 
--- src/lib.rt:79:25
 enum-known-written-2 : tie.Need-enum-known-written-2
 enum-known-written-2 c = search needs
 
--- src/lib.rt:69:1
 returns-2 : tie.Need-returns-2
 returns-2 c =
     let args = c .before .before .before .before .args in
     (omega arith, λ out l. part-all (args .written) out _ (args .len) (c .before .before .written .given .1) (c .if1 .left) l)
 
--- src/lib.rt:69:1
 returns-3 : tie.Need-returns-3
 returns-3 c = (omega arith, λ out l. part-none (c .before .before .before .args .written) out _ (c .before .written2 .given .1))
 
