@@ -2,8 +2,9 @@
 
 use crate::calls::{self, Options};
 use crate::hex::read_hex;
+use crate::models::{finished, fitting};
 use crate::protocol::Answer;
-use crate::refusal::{NO_SPACE, Refusal, STALE};
+use crate::refusal::Refusal;
 
 /// The most digits of a number of words or bytes.
 const DIGITS: usize = 5;
@@ -76,24 +77,13 @@ fn is_part(text: &[u8]) -> bool {
 }
 
 fn layout(text: &[u8], table: &[u32], room: usize) -> Result<Vec<u8>, Refusal> {
-    if !table.starts_with(&calls::read(text)?) {
-        return Err(Refusal::unplaced(STALE));
-    }
+    finished(text, table)?;
     fitting(calls::format(text, &Options::default())?, room)
 }
 
 fn reformat(text: &[u8], table: usize, room: usize) -> Result<Vec<u8>, Refusal> {
     read(text, table)?;
     fitting(calls::format(text, &Options::default())?, room)
-}
-
-/// Refusal 14.
-fn fitting<T>(answer: Vec<T>, room: usize) -> Result<Vec<T>, Refusal> {
-    if answer.len() <= room {
-        Ok(answer)
-    } else {
-        Err(Refusal::unplaced(NO_SPACE))
-    }
 }
 
 fn bytes(word: &[u8]) -> Result<Vec<u8>, String> {

@@ -8,6 +8,7 @@ mod error_map;
 pub mod generate;
 mod hex;
 mod lent;
+pub mod models;
 mod protocol;
 mod records;
 mod refusal;

@@ -3,6 +3,7 @@
 use crate::calls::{self, Options};
 use crate::hex::{read_hex, write_hex};
 use crate::lent::Lent;
+use crate::models::{Part, Parts};
 use crate::refusal::Refusal;
 
 /// One question.
@@ -89,6 +90,27 @@ impl Case {
             }),
             Self::Compare(a, b) => Answer::new(calls::compare(a, b), Answer::Truth),
         }
+    }
+}
+
+/// The texts, settings too.
+impl Parts for Case {
+    fn parts(&mut self) -> Vec<Part<'_>> {
+        let texts = match self {
+            Self::Read(text)
+            | Self::Unquote(text)
+            | Self::Identifier(text)
+            | Self::Tokens(text) => vec![text],
+            Self::Format(text, options) => vec![
+                text,
+                &mut options.indentation,
+                &mut options.newline,
+                &mut options.space,
+                &mut options.separator,
+            ],
+            Self::Compare(a, b) => vec![a, b],
+        };
+        texts.into_iter().map(Part::Bytes).collect()
     }
 }
 

@@ -6,15 +6,15 @@ use eon_syntax::{Span, TokenTree, TokenValue};
 /// Words in a record: kind, start, text end, end, records in it counting itself.
 pub const WORDS: usize = 5;
 
-const IDENTIFIER: u32 = 1;
-const NUMBER: u32 = 2;
-const STRING: u32 = 3;
-const LIST: u32 = 4;
-const MAP: u32 = 5;
-const VARIANT: u32 = 6;
-const PREFIX: u32 = 7;
-const SUFFIX: u32 = 8;
-const CLOSING: u32 = 9;
+pub const IDENTIFIER: u32 = 1;
+pub const NUMBER: u32 = 2;
+pub const STRING: u32 = 3;
+pub const LIST: u32 = 4;
+pub const MAP: u32 = 5;
+pub const VARIANT: u32 = 6;
+pub const PREFIX: u32 = 7;
+pub const SUFFIX: u32 = 8;
+pub const CLOSING: u32 = 9;
 
 pub fn records(source: &str, tree: &TokenTree<'_>) -> Vec<u32> {
     let mut table = Table {

@@ -23,7 +23,7 @@ pub fn case(rng: &mut Rng) -> Case {
 }
 
 /// A text of exactly so many bytes.
-fn text(length: usize, rng: &mut Rng) -> Vec<u8> {
+pub fn text(length: usize, rng: &mut Rng) -> Vec<u8> {
     let (front, unit, back) = match rng.below(19) {
         0 => ("1 //", "c", ""),
         1 => ("", "1 ", ""),

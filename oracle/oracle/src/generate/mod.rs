@@ -1,18 +1,18 @@
 //! Cases to ask, the same for the same kind and seed.
 
-mod deep;
-mod long;
-mod pairs;
+pub(crate) mod deep;
+pub(crate) mod long;
+pub(crate) mod pairs;
 mod rng;
-mod settings;
-mod short;
-mod strings;
-mod tree;
-mod wild;
+pub(crate) mod settings;
+pub(crate) mod short;
+pub(crate) mod strings;
+pub(crate) mod tree;
+pub(crate) mod wild;
 
 use crate::calls::Options;
 use crate::protocol::Case;
-use rng::Rng;
+pub use rng::Rng;
 
 #[derive(Clone, Copy, Debug, PartialEq, Eq)]
 pub enum Kind {

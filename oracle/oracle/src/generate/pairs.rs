@@ -5,7 +5,14 @@ use super::tree::{self, Bracket, Document, Inside, Node, Value};
 use super::wild;
 use crate::protocol::Case;
 
+type Pair = (Vec<u8>, Vec<u8>);
+
 pub fn case(rng: &mut Rng) -> Case {
+    let (a, b) = texts(rng);
+    Case::Compare(a, b)
+}
+
+pub fn texts(rng: &mut Rng) -> Pair {
     match rng.below(8) {
         0..3 => respaced(rng),
         3 | 4 => one_byte_changed(rng),
@@ -14,25 +21,25 @@ pub fn case(rng: &mut Rng) -> Case {
     }
 }
 
-fn respaced(rng: &mut Rng) -> Case {
+fn respaced(rng: &mut Rng) -> Pair {
     let document = tree::document(rng);
     let a = tree::render(&document, rng);
     let b = tree::render(&document, rng);
-    Case::Compare(a.into_bytes(), b.into_bytes())
+    (a.into_bytes(), b.into_bytes())
 }
 
-fn one_byte_changed(rng: &mut Rng) -> Case {
+fn one_byte_changed(rng: &mut Rng) -> Pair {
     let a = tree::text(rng).into_bytes();
     let mut b = a.clone();
     if !b.is_empty() {
         let place = rng.below(b.len());
         b[place] = *rng.pick_from(b"a1 \n[]{}\"'/,x");
     }
-    Case::Compare(a, b)
+    (a, b)
 }
 
 /// The same few atoms in the same order, put into brackets in two ways.
-fn sizes_moved(rng: &mut Rng) -> Case {
+fn sizes_moved(rng: &mut Rng) -> Pair {
     let atoms: Vec<&str> = (0..rng.between(1, 5))
         .map(|_| rng.pick(&["1", "a", "\"s\""]))
         .collect();
@@ -45,7 +52,7 @@ fn sizes_moved(rng: &mut Rng) -> Case {
     };
     let a = side();
     let b = side();
-    Case::Compare(a, b)
+    (a, b)
 }
 
 fn grouped(atoms: &[&str], depth: usize, rng: &mut Rng) -> Inside {
@@ -78,7 +85,7 @@ fn group(atoms: &[&str], depth: usize, rng: &mut Rng) -> Node {
 }
 
 /// Either may be refused, or both.
-fn damaged(rng: &mut Rng) -> Case {
+fn damaged(rng: &mut Rng) -> Pair {
     let document = tree::document(rng);
     let mut a = tree::render(&document, rng).into_bytes();
     let mut b = tree::render(&document, rng).into_bytes();
@@ -89,7 +96,7 @@ fn damaged(rng: &mut Rng) -> Case {
     if which != 1 {
         wild::damage(&mut b, rng);
     }
-    Case::Compare(a, b)
+    (a, b)
 }
 
 #[cfg(test)]
@@ -101,7 +108,8 @@ mod tests {
     fn respaced_texts_have_one_tree() {
         let mut rng = Rng::new(1);
         for _ in 0..5000 {
-            let case = respaced(&mut rng);
+            let (a, b) = respaced(&mut rng);
+            let case = Case::Compare(a, b);
             assert_eq!(case.answer(), Answer::Truth(true), "{case:?}");
         }
     }

@@ -44,6 +44,10 @@ pub fn case(rng: &mut Rng) -> Case {
         1 => b"{a:1}//s".to_vec(),
         _ => tree::text(rng).into_bytes(),
     };
+    Case::Format(text, options(rng))
+}
+
+pub fn options(rng: &mut Rng) -> Options {
     let mut options = Options {
         braces: rng.chance(50),
         ..Options::default()
@@ -59,5 +63,5 @@ pub fn case(rng: &mut Rng) -> Case {
             *setting = rng.pick(&SETTINGS).to_vec();
         }
     }
-    Case::Format(text, options)
+    options
 }

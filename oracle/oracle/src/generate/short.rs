@@ -35,6 +35,10 @@ pub fn case(turn: usize) -> Option<Case> {
     })
 }
 
+pub fn text(rng: &mut Rng) -> Vec<u8> {
+    rng.pick_from(&TEXTS).clone()
+}
+
 pub fn random_case(rng: &mut Rng) -> Case {
     case(rng.below(2 * TEXTS.len())).expect("within the texts")
 }
