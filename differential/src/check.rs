@@ -304,7 +304,7 @@ fn number_of<T>(answer: &Result<T, oracle::Refusal>) -> Number {
     answer.as_ref().map_or_else(|refusal| refusal.number, |_| 0)
 }
 
-fn refusal_of(refusal: oracle::Refusal) -> Refusal {
+pub fn refusal_of(refusal: oracle::Refusal) -> Refusal {
     Refusal {
         kind: RefusalKind::of_number(refusal.number),
         start: refusal.start as usize,
@@ -348,7 +348,7 @@ fn damaged(words: &[u32]) -> Vec<u32> {
         .fold(words.len() as u32, |sum, word| sum.rotate_left(5) ^ word);
     let len = words.len();
     if len != 0 {
-        words[sum as usize % len] ^= 1 << (sum >> 16) % 32;
+        words[sum as usize % len] ^= 1 << ((sum >> 16) % 32);
     }
     words
 }

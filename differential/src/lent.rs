@@ -45,6 +45,13 @@ impl<T: Word> Lent<T> {
         }
     }
 
+    /// These words, to be read only.
+    pub fn holding(words: &[T], behind: Behind) -> Self {
+        let mut lent = Self::new(behind);
+        lent.lend_after(words, 0);
+        lent
+    }
+
     fn guard(&self) -> usize {
         match self.behind {
             Behind::Guard => GUARD,
@@ -85,7 +92,50 @@ impl<T: Word> Lent<T> {
         Ok(())
     }
 
+    /// The words that a call has written, by how many it answers. The words behind them, all of them
+    /// after a refusal, must be those of the pattern.
+    pub fn answered<R>(&self, answer: Result<usize, R>) -> Result<Result<Vec<T>, R>, String> {
+        let len = match answer {
+            Ok(len) => len,
+            Err(refusal) => return self.unchanged().map(|()| Err(refusal)),
+        };
+        let lent = self.words();
+        match lent.get(..len) {
+            None => Err(format!("{len} are answered, and {} lent", lent.len())),
+            Some(written) => self.holds(written).map(|()| Ok(written.to_vec())),
+        }
+    }
+
     pub fn unchanged(&self) -> Result<(), String> {
         self.holds(&[])
+    }
+}
+
+#[cfg(test)]
+mod tests {
+    use super::*;
+
+    #[test]
+    fn a_changed_word_is_told() {
+        for at in 0..3 + GUARD {
+            let mut lent = Lent::holding(&[7, 8, 9], Behind::Guard);
+            assert_eq!(lent.holds(&[7, 8, 9]), Ok(()));
+            lent.words[at] ^= 1u32;
+            assert!(lent.holds(&[7, 8, 9]).is_err(), "{at}");
+        }
+    }
+
+    #[test]
+    fn an_answer_is_what_was_written() {
+        let refused = Err::<usize, &str>("refused");
+        let mut lent = Lent::<u8>::new(Behind::Guard);
+        lent.lend(4);
+        assert_eq!(lent.answered(refused), Ok(Err("refused")));
+        lent.words[..2].copy_from_slice(b"ab");
+        assert_eq!(lent.answered(Ok::<_, &str>(2)), Ok(Ok(b"ab".to_vec())));
+        // Less is answered than is written, more than is lent, and something is written on a refusal.
+        for answer in [Ok(1), Ok(5), refused] {
+            assert!(lent.answered(answer).is_err(), "{answer:?}");
+        }
     }
 }

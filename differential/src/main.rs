@@ -1,14 +1,13 @@
 //! `differential COUNT SEED KIND [exact]`: see README.md.
 
-mod check;
-mod lent;
-mod shrink;
-
-use check::{Checker, Number};
-use lent::Behind;
+use differential::caught;
+use differential::check::{Checker, Number};
+use differential::counts::Counts;
+use differential::lent::Behind;
+use differential::shrink::shrink;
 use oracle::Case;
 use oracle::generate::{Kind, generate};
-use std::panic::{self, AssertUnwindSafe};
+use oracle::models::{Part, Parts};
 use std::process::ExitCode;
 
 const USAGE: &str = "usage: differential COUNT SEED KIND [exact]";
@@ -70,7 +69,7 @@ fn run(plan: &Plan) -> Result<usize, String> {
 /// A text's allocation ends where memory behind it is to be nothing.
 fn laid(mut case: Case, behind: Behind) -> Case {
     if behind == Behind::Nothing {
-        for text in shrink::fields(&mut case) {
+        for text in texts(&mut case) {
             text.shrink_to_fit();
         }
     }
@@ -104,43 +103,38 @@ fn run_kind(
     kind: Kind,
     cases: impl Iterator<Item = Case>,
 ) -> Result<usize, String> {
-    let mut counts = [0usize; 32];
+    let mut counts = Counts::default();
     for case in cases {
         match ask(checker, &case) {
-            Ok(number) => counts[number as usize % 32] += 1,
+            Ok(number) => counts.add(number),
             Err(_) => return Err(report(checker, case)),
         }
     }
-    let total: usize = counts.iter().sum();
-    print!(
-        "{:10} {total:>9} cases, {:>9} answered",
-        kind.name(),
-        counts[0]
-    );
-    let refused = counts.iter().enumerate().skip(1).filter(|(_, n)| **n > 0);
-    let refused: Vec<String> = refused
-        .map(|(number, n)| format!("{number}: {n}"))
-        .collect();
-    match refused[..] {
-        [] => println!(),
-        _ => println!("; refused by {}", refused.join(", ")),
-    }
-    Ok(total)
+    println!("{:10} {counts}", kind.name());
+    Ok(counts.total())
 }
 
 fn ask(checker: &mut Checker, case: &Case) -> Result<Number, String> {
-    let answer = panic::catch_unwind(AssertUnwindSafe(|| checker.check(case)));
-    answer.unwrap_or_else(|_| Err("a panic, see standard error".to_owned()))
+    caught(|| checker.check(case))
+}
+
+/// The texts of a case, settings too.
+fn texts(case: &mut Case) -> Vec<&mut Vec<u8>> {
+    let parts = case.parts().into_iter();
+    let texts = parts.filter_map(|part| match part {
+        Part::Bytes(text) => Some(text),
+        _ => None,
+    });
+    texts.collect()
 }
 
 fn report(checker: &mut Checker, case: Case) -> String {
-    let mut smallest = shrink::shrink(case, |case| ask(checker, case).is_err());
+    let mut smallest = shrink(case, |case| ask(checker, case).is_err());
     let difference = ask(checker, &smallest).unwrap_err();
     let mut line = Vec::new();
     smallest.write(&mut line);
     let line = String::from_utf8_lossy(&line);
-    let fields = shrink::fields(&mut smallest);
-    let fields: Vec<String> = fields
+    let fields: Vec<String> = texts(&mut smallest)
         .iter()
         .map(|bytes| format!("\"{}\"", bytes.escape_ascii()))
         .collect();
