@@ -18,7 +18,7 @@ use Rattle.eon_spec.specs.declared.Which.the-variants.{Quoted, Scratch}
 use Rattle.eon_laws.proofs.Checked.{checked-long, checked-bad, checked-good, good-text}
 use Rattle.eon_unescape.specs.Views.{kept, Reads}
 use Rattle.eon_strings.specs.Views.{ContentsIs, handed, placedCall, scratchCall}
-use Rattle.eon_strings.specs.declared.Contents.{Contents}
+use Rattle.eon_strings.specs.declared.strings.Contents.{Contents}
 
 module _ (old : List ℕ) where
   fits : (p : Part) (new : List ℕ) → length new ≤ length old → fill old (done (p, new)) ≡ after (done p) (written new old)

@@ -14,8 +14,8 @@ use Rattle.eon_escape.specs.Views.{readsBy}
 use Rattle.eon_unescape.specs.Views.{kept, between, Formed}
 use Rattle.eon_escape.specs.declared.Mode.{Mode}
 use Rattle.eon_escape.specs.declared.Mode.the-variants.{Literal, Plain, Backslash, Blanks, Unicode, Digits}
-use Rattle.eon_strings.specs.declared.Contents.{Contents}
-use Rattle.eon_strings.specs.declared.Contents.the-variants.{Text, Fault}
+use Rattle.eon_strings.specs.declared.strings.Contents.{Contents}
+use Rattle.eon_strings.specs.declared.strings.Contents.the-variants.{Text, Fault}
 
 -- two places in a text, with whole characters between them
 pub record Inside (s : List ℕ) (i e : ℕ) : Type 0 where
