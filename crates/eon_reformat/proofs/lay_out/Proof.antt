@@ -38,7 +38,7 @@ copy-requires c κs =
     let args = c .before .before .before .before .before .before .before .before .before .before .before .before .before .args in
     let pre = c .before .before .before .before .before .before .before .before .before .before .before .before .before .pre in
     let if1 = c .before .before .before .before .before .before .before .before .if1 in
-    (words-within (args .text .now) (args .work .now) (args .table .now) (args .options) (args .out .now) (args .n) (pre .0) (pre .1), omega (arith, if1 .left))
+    (omega (arith, words-within (args .text .now) (args .work .now) (args .table .now) (args .options) (args .out .now) (args .n) (pre .0) (pre .1)), omega (arith, if1 .left))
 
 same-length : tie.Need-same-length
 same-length c = search needs
