@@ -1,9 +1,9 @@
 // The verb format.
-use crate::hex::Taken;
-use crate::hex::{self};
-use crate::input;
-use crate::line;
-use crate::print;
+use answer_line::hex::Taken;
+use answer_line::hex::{self};
+use answer_line::input;
+use answer_line::line;
+use answer_line::print;
 use eon_spec::Answer;
 use eon_spec::FormatOptions;
 use eon_spec::Setting;

@@ -1,13 +1,13 @@
 // The verbs that say how much is lent.
-use crate::hex::Taken;
-use crate::hex::{self};
-use crate::input;
 use crate::layout;
-use crate::number::Number;
-use crate::number::{self};
-use crate::print;
 use crate::tree;
 use crate::verbs;
+use answer_line::hex::Taken;
+use answer_line::hex::{self};
+use answer_line::input;
+use answer_line::number::Number;
+use answer_line::number::{self};
+use answer_line::print;
 use eon_spec::FormatOptions;
 
 // A table of so many words.

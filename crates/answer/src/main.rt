@@ -1,15 +1,13 @@
 // Speaks the line protocol of `oracle answer` (oracle/README.md), so that the original's answers can be compared with ours.
-mod hex;
-mod input;
 mod layout;
 mod lent;
-mod line;
-mod number;
-mod print;
 mod tree;
 mod verbs;
 
-use input::Held;
+use answer_line::input;
+use answer_line::input::Held;
+use answer_line::line;
+use answer_line::print;
 
 // The verbs that take one text.
 fn one_text(

@@ -1,8 +1,8 @@
 // The verbs on tables: read and compare.
-use crate::hex::Taken;
-use crate::hex::{self};
-use crate::input;
-use crate::print;
+use answer_line::hex::Taken;
+use answer_line::hex::{self};
+use answer_line::input;
+use answer_line::print;
 use eon_spec::Answer;
 use eon_spec::Compared;
 

@@ -1,8 +1,8 @@
 // The verbs on strings and tokens.
-use crate::hex::Taken;
-use crate::hex::{self};
-use crate::input;
-use crate::print;
+use answer_line::hex::Taken;
+use answer_line::hex::{self};
+use answer_line::input;
+use answer_line::print;
 use eon_spec::Refusal;
 use eon_spec::Unquoted;
 ghost use mathlib.Core.Path.{_≡_};

@@ -100,6 +100,7 @@ pub fn add_indent(o: FormatOptions, n: usize, out: &mut [u8], live: bool, at: us
     at
 }
 
+// A record's text: its bytes, and of a variant its name.
 pub fn put_text(
     text: &[u8],
     table: &[u32],

@@ -1,17 +1,17 @@
 use borrow.Author.Needs.{needs}
 use Prim.Native.Nat.{_-_}
 use lib.ListN.{length}
-use Rattle.answer.proofs.hex.is_digits.Statement.{statement}
-use Rattle.answer.proofs.hex.is_digits.Tie as tie
+use Rattle.answer_line.proofs.line.words.Statement.{statement}
+use Rattle.answer_line.proofs.line.words.Tie as tie
 
 abbrev Inv-loop : tie.InvT-loop
-Inv-loop word i₀ i = Unit {0}
+Inv-loop line n₀ i₀ n i = Unit {0}
 
 abbrev μ-loop : tie.MeasureT-loop
-μ-loop word i₀ i = length word - i
+μ-loop line n₀ i₀ n i = length line - i
 
-pub is-digits-spec : {M : Type 1} → statement M
-is-digits-spec =
+pub words-spec : {M : Type 1} → statement M
+words-spec =
     tie.close
     (tie.spec
     Inv-loop
@@ -19,7 +19,6 @@ is-digits-spec =
     (λ c. search needs)
     (λ c. search needs)
     (λ c κs. search needs)
-    (λ c. search needs)
     (λ c. search needs)
     (λ c. search needs)
     (λ c. search needs)

@@ -2,26 +2,24 @@ use borrow.Author.Needs.{needs}
 use mathlib.Core.Path.{_≡_}
 use Prim.Native.Nat.{_-_}
 use lib.ListN.{length}
-use Rattle.answer.proofs.hex.decode.Statement.{statement}
-use Rattle.answer.proofs.hex.decode.Tie as tie
+use Rattle.answer_line.proofs.print.put_all.Statement.{statement}
+use Rattle.answer_line.proofs.print.put_all.Tie as tie
 
 abbrev Inv-loop : tie.InvT-loop
-Inv-loop word room₀ n i₀ room i = length room ≡ length room₀
+Inv-loop out₀ at bytes to₀ i₀ out to i = length out ≡ length out₀
 
 abbrev μ-loop : tie.MeasureT-loop
-μ-loop word room₀ n i₀ room i = n - i
+μ-loop out₀ at bytes to₀ i₀ out to i = length bytes - i
 
-pub decode-spec : {M : Type 1} → statement M
-decode-spec =
+pub put-all-spec : {M : Type 1} → statement M
+put-all-spec =
     tie.close
     (tie.spec
     Inv-loop
     μ-loop
     (λ c. search needs)
     (λ c. search needs)
-    (λ c. search needs)
     (λ c κs. search needs)
-    (λ c. search needs)
     (λ c. search needs)
     (λ c. search needs)
     (λ c. search needs)

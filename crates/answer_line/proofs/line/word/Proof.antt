@@ -1,6 +1,6 @@
 use borrow.Author.Needs.{needs}
-use Rattle.answer.proofs.line.word.Statement.{statement}
-use Rattle.answer.proofs.line.word.Tie as tie
+use Rattle.answer_line.proofs.line.word.Statement.{statement}
+use Rattle.answer_line.proofs.line.word.Tie as tie
 
 abbrev Inv-loop : tie.InvT-loop
 Inv-loop line number from₀ left₀ from left = Unit {0}

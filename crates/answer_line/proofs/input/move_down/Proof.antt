@@ -2,8 +2,8 @@ use borrow.Author.Needs.{needs}
 use mathlib.Core.Path.{_≡_}
 use Prim.Native.Nat.{_-_}
 use lib.ListN.{length}
-use Rattle.answer.proofs.input.move_down.Statement.{statement}
-use Rattle.answer.proofs.input.move_down.Tie as tie
+use Rattle.answer_line.proofs.input.move_down.Statement.{statement}
+use Rattle.answer_line.proofs.input.move_down.Tie as tie
 
 abbrev Inv-loop : tie.InvT-loop
 Inv-loop s₀ from end i₀ j₀ s i j = length s ≡ length s₀

@@ -1,18 +1,17 @@
 use borrow.Author.Needs.{needs}
-use mathlib.Core.Path.{_≡_}
 use Prim.Native.Nat.{_-_}
 use lib.ListN.{length}
-use Rattle.answer.proofs.print.put_all.Statement.{statement}
-use Rattle.answer.proofs.print.put_all.Tie as tie
+use Rattle.answer_line.proofs.hex.is_digits.Statement.{statement}
+use Rattle.answer_line.proofs.hex.is_digits.Tie as tie
 
 abbrev Inv-loop : tie.InvT-loop
-Inv-loop out₀ at bytes to₀ i₀ out to i = length out ≡ length out₀
+Inv-loop word i₀ i = Unit {0}
 
 abbrev μ-loop : tie.MeasureT-loop
-μ-loop out₀ at bytes to₀ i₀ out to i = length bytes - i
+μ-loop word i₀ i = length word - i
 
-pub put-all-spec : {M : Type 1} → statement M
-put-all-spec =
+pub is-digits-spec : {M : Type 1} → statement M
+is-digits-spec =
     tie.close
     (tie.spec
     Inv-loop

@@ -1,8 +1,8 @@
 use borrow.Author.Needs.{needs}
 use Prim.Native.Nat.{_-_}
 use lib.ListN.{length}
-use Rattle.answer.proofs.number.decimal.Statement.{statement}
-use Rattle.answer.proofs.number.decimal.Tie as tie
+use Rattle.answer_line.proofs.number.decimal.Statement.{statement}
+use Rattle.answer_line.proofs.number.decimal.Tie as tie
 
 abbrev Inv-loop : tie.InvT-loop
 Inv-loop word n₀ i₀ n i = Unit {0}
