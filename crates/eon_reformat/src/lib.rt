@@ -1,4 +1,5 @@
-// Reading and layout in one call. The lent table must stay as it is until the output is known to have room, so the text is read into a table of the function's own.
+// Reading and layout in one call. The lent table must stay as it is until the output is known to have room, so the text is read into a
+// table of the function's own.
 ghost use mathlib.Core.Path.{_≡_};
 ghost use mathlib.Core.List.{_++_};
 ghost use mathlib.Core.Bool.{true};
@@ -15,7 +16,7 @@ use eon_spec::error::NO_SPACE;
 
 const RECORD_WORDS: usize = 5;
 
-// How long a text may be for each frame, which has room for a record more than the text has bytes. The last is document 01's own limit.
+// How long a text may be for each frame, which has room for a record more than the text has bytes. The last is document 01's limit.
 const SMALL_TEXT: usize = 2047;
 
 const MEDIUM_TEXT: usize = 16383;
@@ -120,7 +121,8 @@ fn in_large(text: &[u8], table: &mut [u32], options: FormatOptions, out: &mut [u
     reformat_in(text, &mut work, table, options, out)
 }
 
-// Reads a text and lays it out. On success the table is finished and the answer is how many bytes were written; a refusal leaves both memories as they were.
+// Reads a text and lays it out. On success the table is finished and the answer is how many bytes were written; a refusal leaves both
+// memories as they were.
 pub fn reformat(text: &[u8], table: &mut [u32], options: FormatOptions, out: &mut [u8]) -> Answer
     ensures { λ r. ⌜ afterBoth (outcomeOf r) (now (table .exit)) (now (out .exit)) ≡ reformatCall (now (text .entry)) (now (table .entry)) options (now (out .entry)) ⌝ }
 {

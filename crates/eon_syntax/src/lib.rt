@@ -30,7 +30,8 @@ pub fn format(text: &[u8], table: &[u32], options: FormatOptions, out: &mut [u8]
     }
 }
 
-// Reads a text and lays it out. On success the table is finished and the answer is how many bytes were written; a refusal leaves both memories as they were.
+// Reads a text and lays it out. On success the table is finished and the answer is how many bytes were written; a refusal leaves both
+// memories as they were.
 pub fn reformat(text: &[u8], table: &mut [u32], options: FormatOptions, out: &mut [u8]) -> Answer
     ensures { λ r. ⌜ afterBoth (outcomeOf r) (now (table .exit)) (now (out .exit)) ≡ reformatCall (now (text .entry)) (now (table .entry)) options (now (out .entry)) ⌝ }
 {

@@ -6,6 +6,7 @@ use Prim.Native.Nat.{ℕ, _+_, _≤_, _<_}
 use native.Mathlib.Omega.{arith}
 use lib.ListN.{length}
 use Rattle.eon_spec.specs.Tree.{Slice, TokenTree, TokenValue, TokenTrees, KeyValues, identifier, number, quotedString, listOf, mapOf, variantOf, noTrees, _∷ᵗ_, noPairs, pair}
+use Rattle.eon_spec.specs.RecordKind.{IDENTIFIER, NUMBER, STRING, LIST, MAP, VARIANT, CLOSING_COMMENT}
 use Rattle.eon_spec.specs.Layout.{prefixOf}
 use Rattle.eon_spec.specs.Records.{treeRecords}
 use Rattle.eon_spec.specs.Calls.{recordText}
@@ -21,35 +22,35 @@ use Rattle.eon_table.proofs.Walk.{tree-pos, value-kind, value-size, val
 
 module _ (s tb : List ℕ) (i : ℕ) where
   -- the text of a leaf or a comment
-  pub leaf-text : (k : ℕ) (b : List ℕ) → LeafAt s tb k i b → (k ≡ 4 → ⊥) → (k ≡ 5 → ⊥) → recordText s (recordOf tb i) ≡ b
+  pub leaf-text : (k : ℕ) (b : List ℕ) → LeafAt s tb k i b → (k ≡ LIST → ⊥) → (k ≡ MAP → ⊥) → recordText s (recordOf tb i) ≡ b
   leaf-text k b h e f = sym (text-some s (recordOf tb i) (λ z. e (sym (h .isKind) ∙ z)) (λ z. f (sym (h .isKind) ∙ z))) ∙ h .bytes
 
   off : {A : Type 0} (v : TokenValue) (k : ℕ) → ValueAt s tb i v → word tb i 0 ≡ k → (kindOf v ≡ k → ⊥) → A
   off v k h e f = absurd (f (sym (value-kind s tb i v h) ∙ e))
 
-  pub identifier-is : (v : TokenValue) → ValueAt s tb i v → word tb i 0 ≡ 1 → v ≡ identifier (recordText s (recordOf tb i))
-  identifier-is (identifier b) h e = ap identifier (sym (leaf-text 1 b (unfold ValueAt in h) (λ z. omega arith) (λ z. omega arith)))
-  identifier-is (number b) h e = off (number b) 1 h e (λ z. omega arith)
-  identifier-is (quotedString b) h e = off (quotedString b) 1 h e (λ z. omega arith)
-  identifier-is (listOf vs cl) h e = off (listOf vs cl) 1 h e (λ z. omega arith)
-  identifier-is (mapOf kvs cl) h e = off (mapOf kvs cl) 1 h e (λ z. omega arith)
-  identifier-is (variantOf m vs cl) h e = off (variantOf m vs cl) 1 h e (λ z. omega arith)
+  pub identifier-is : (v : TokenValue) → ValueAt s tb i v → word tb i 0 ≡ IDENTIFIER → v ≡ identifier (recordText s (recordOf tb i))
+  identifier-is (identifier b) h e = ap identifier (sym (leaf-text IDENTIFIER b (unfold ValueAt in h) (λ z. omega arith) (λ z. omega arith)))
+  identifier-is (number b) h e = off (number b) IDENTIFIER h e (λ z. omega arith)
+  identifier-is (quotedString b) h e = off (quotedString b) IDENTIFIER h e (λ z. omega arith)
+  identifier-is (listOf vs cl) h e = off (listOf vs cl) IDENTIFIER h e (λ z. omega arith)
+  identifier-is (mapOf kvs cl) h e = off (mapOf kvs cl) IDENTIFIER h e (λ z. omega arith)
+  identifier-is (variantOf m vs cl) h e = off (variantOf m vs cl) IDENTIFIER h e (λ z. omega arith)
 
-  pub number-is : (v : TokenValue) → ValueAt s tb i v → word tb i 0 ≡ 2 → v ≡ number (recordText s (recordOf tb i))
-  number-is (identifier b) h e = off (identifier b) 2 h e (λ z. omega arith)
-  number-is (number b) h e = ap number (sym (leaf-text 2 b (unfold ValueAt in h) (λ z. omega arith) (λ z. omega arith)))
-  number-is (quotedString b) h e = off (quotedString b) 2 h e (λ z. omega arith)
-  number-is (listOf vs cl) h e = off (listOf vs cl) 2 h e (λ z. omega arith)
-  number-is (mapOf kvs cl) h e = off (mapOf kvs cl) 2 h e (λ z. omega arith)
-  number-is (variantOf m vs cl) h e = off (variantOf m vs cl) 2 h e (λ z. omega arith)
+  pub number-is : (v : TokenValue) → ValueAt s tb i v → word tb i 0 ≡ NUMBER → v ≡ number (recordText s (recordOf tb i))
+  number-is (identifier b) h e = off (identifier b) NUMBER h e (λ z. omega arith)
+  number-is (number b) h e = ap number (sym (leaf-text NUMBER b (unfold ValueAt in h) (λ z. omega arith) (λ z. omega arith)))
+  number-is (quotedString b) h e = off (quotedString b) NUMBER h e (λ z. omega arith)
+  number-is (listOf vs cl) h e = off (listOf vs cl) NUMBER h e (λ z. omega arith)
+  number-is (mapOf kvs cl) h e = off (mapOf kvs cl) NUMBER h e (λ z. omega arith)
+  number-is (variantOf m vs cl) h e = off (variantOf m vs cl) NUMBER h e (λ z. omega arith)
 
-  pub string-is : (v : TokenValue) → ValueAt s tb i v → word tb i 0 ≡ 3 → v ≡ quotedString (recordText s (recordOf tb i))
-  string-is (identifier b) h e = off (identifier b) 3 h e (λ z. omega arith)
-  string-is (number b) h e = off (number b) 3 h e (λ z. omega arith)
-  string-is (quotedString b) h e = ap quotedString (sym (leaf-text 3 b (unfold ValueAt in h) (λ z. omega arith) (λ z. omega arith)))
-  string-is (listOf vs cl) h e = off (listOf vs cl) 3 h e (λ z. omega arith)
-  string-is (mapOf kvs cl) h e = off (mapOf kvs cl) 3 h e (λ z. omega arith)
-  string-is (variantOf m vs cl) h e = off (variantOf m vs cl) 3 h e (λ z. omega arith)
+  pub string-is : (v : TokenValue) → ValueAt s tb i v → word tb i 0 ≡ STRING → v ≡ quotedString (recordText s (recordOf tb i))
+  string-is (identifier b) h e = off (identifier b) STRING h e (λ z. omega arith)
+  string-is (number b) h e = off (number b) STRING h e (λ z. omega arith)
+  string-is (quotedString b) h e = ap quotedString (sym (leaf-text STRING b (unfold ValueAt in h) (λ z. omega arith) (λ z. omega arith)))
+  string-is (listOf vs cl) h e = off (listOf vs cl) STRING h e (λ z. omega arith)
+  string-is (mapOf kvs cl) h e = off (mapOf kvs cl) STRING h e (λ z. omega arith)
+  string-is (variantOf m vs cl) h e = off (variantOf m vs cl) STRING h e (λ z. omega arith)
 
   -- a container: its items stand from the record behind it up to `end`, which is where its size says (`behind`)
   pub record IsList (end : ℕ) (v : TokenValue) : Type 0 where
@@ -72,34 +73,34 @@ module _ (s tb : List ℕ) (i : ℕ) where
     pub named : recordText s (recordOf tb i) ≡ name .bytes
     pub inside : InsideAt s tb end (i + 1) items closing
 
-  pub list-is : (end : ℕ) → end ≡ i + word tb i 4 → (v : TokenValue) → ValueAt s tb i v → word tb i 0 ≡ 4 → IsList end v
-  list-is end q (identifier b) h e = off (identifier b) 4 h e (λ z. omega arith)
-  list-is end q (number b) h e = off (number b) 4 h e (λ z. omega arith)
-  list-is end q (quotedString b) h e = off (quotedString b) 4 h e (λ z. omega arith)
+  pub list-is : (end : ℕ) → end ≡ i + word tb i 4 → (v : TokenValue) → ValueAt s tb i v → word tb i 0 ≡ LIST → IsList end v
+  list-is end q (identifier b) h e = off (identifier b) LIST h e (λ z. omega arith)
+  list-is end q (number b) h e = off (number b) LIST h e (λ z. omega arith)
+  list-is end q (quotedString b) h e = off (quotedString b) LIST h e (λ z. omega arith)
   list-is end q (listOf vs cl) h e = record { items = vs; closing = cl; is = refl; inside = subst (λ (j : ℕ). InsideAt s tb j (i + 1) vs cl) (sym q) (list-inside s tb i vs cl h) }
-  list-is end q (mapOf kvs cl) h e = off (mapOf kvs cl) 4 h e (λ z. omega arith)
-  list-is end q (variantOf m vs cl) h e = off (variantOf m vs cl) 4 h e (λ z. omega arith)
+  list-is end q (mapOf kvs cl) h e = off (mapOf kvs cl) LIST h e (λ z. omega arith)
+  list-is end q (variantOf m vs cl) h e = off (variantOf m vs cl) LIST h e (λ z. omega arith)
 
-  pub map-is : (end : ℕ) → end ≡ i + word tb i 4 → (v : TokenValue) → ValueAt s tb i v → word tb i 0 ≡ 5 → IsMap end v
-  map-is end q (identifier b) h e = off (identifier b) 5 h e (λ z. omega arith)
-  map-is end q (number b) h e = off (number b) 5 h e (λ z. omega arith)
-  map-is end q (quotedString b) h e = off (quotedString b) 5 h e (λ z. omega arith)
-  map-is end q (listOf vs cl) h e = off (listOf vs cl) 5 h e (λ z. omega arith)
+  pub map-is : (end : ℕ) → end ≡ i + word tb i 4 → (v : TokenValue) → ValueAt s tb i v → word tb i 0 ≡ MAP → IsMap end v
+  map-is end q (identifier b) h e = off (identifier b) MAP h e (λ z. omega arith)
+  map-is end q (number b) h e = off (number b) MAP h e (λ z. omega arith)
+  map-is end q (quotedString b) h e = off (quotedString b) MAP h e (λ z. omega arith)
+  map-is end q (listOf vs cl) h e = off (listOf vs cl) MAP h e (λ z. omega arith)
   map-is end q (mapOf kvs cl) h e = record { items = kvs; closing = cl; is = refl; inside = subst (λ (j : ℕ). PairedAt s tb j (i + 1) kvs cl) (sym q) (map-inside s tb i kvs cl h) }
-  map-is end q (variantOf m vs cl) h e = off (variantOf m vs cl) 5 h e (λ z. omega arith)
+  map-is end q (variantOf m vs cl) h e = off (variantOf m vs cl) MAP h e (λ z. omega arith)
 
   variant-text : (m : Slice) (vs : TokenTrees) (cl : List Slice) → ValueAt s tb i (variantOf m vs cl) → recordText s (recordOf tb i) ≡ m .bytes
   unfolding ValueAt
   variant-text m vs cl h =
-      let k : word tb i 0 ≡ 6 = h .0 .isKind in
+      let k : word tb i 0 ≡ VARIANT = h .0 .isKind in
       sym (text-some s (recordOf tb i) (λ z. omega arith) (λ z. omega arith)) ∙ h .4
 
-  pub variant-is : (end : ℕ) → end ≡ i + word tb i 4 → (v : TokenValue) → ValueAt s tb i v → word tb i 0 ≡ 6 → IsVariant end v
-  variant-is end q (identifier b) h e = off (identifier b) 6 h e (λ z. omega arith)
-  variant-is end q (number b) h e = off (number b) 6 h e (λ z. omega arith)
-  variant-is end q (quotedString b) h e = off (quotedString b) 6 h e (λ z. omega arith)
-  variant-is end q (listOf vs cl) h e = off (listOf vs cl) 6 h e (λ z. omega arith)
-  variant-is end q (mapOf kvs cl) h e = off (mapOf kvs cl) 6 h e (λ z. omega arith)
+  pub variant-is : (end : ℕ) → end ≡ i + word tb i 4 → (v : TokenValue) → ValueAt s tb i v → word tb i 0 ≡ VARIANT → IsVariant end v
+  variant-is end q (identifier b) h e = off (identifier b) VARIANT h e (λ z. omega arith)
+  variant-is end q (number b) h e = off (number b) VARIANT h e (λ z. omega arith)
+  variant-is end q (quotedString b) h e = off (quotedString b) VARIANT h e (λ z. omega arith)
+  variant-is end q (listOf vs cl) h e = off (listOf vs cl) VARIANT h e (λ z. omega arith)
+  variant-is end q (mapOf kvs cl) h e = off (mapOf kvs cl) VARIANT h e (λ z. omega arith)
   variant-is end q (variantOf m vs cl) h e =
       record { name = m; items = vs; closing = cl; is = refl; named = variant-text m vs cl h; inside = subst (λ (j : ℕ). InsideAt s tb j (i + 1) vs cl) (sym q) (variant-inside s tb i m vs cl h) }
 
@@ -111,12 +112,12 @@ module _ (s tb : List ℕ) where
     pub kind : word tb i 0 ≡ kindOf v
     pub size : word tb i 4 ≡ valueSize v
     -- by its kind; `end` is what `behind` answers
-    pub as-identifier : word tb i 0 ≡ 1 → v ≡ identifier (recordText s (recordOf tb i))
-    pub as-number : word tb i 0 ≡ 2 → v ≡ number (recordText s (recordOf tb i))
-    pub as-string : word tb i 0 ≡ 3 → v ≡ quotedString (recordText s (recordOf tb i))
-    pub as-list : (end : ℕ) → end ≡ i + word tb i 4 → word tb i 0 ≡ 4 → IsList s tb i end v
-    pub as-map : (end : ℕ) → end ≡ i + word tb i 4 → word tb i 0 ≡ 5 → IsMap s tb i end v
-    pub as-variant : (end : ℕ) → end ≡ i + word tb i 4 → word tb i 0 ≡ 6 → IsVariant s tb i end v
+    pub as-identifier : word tb i 0 ≡ IDENTIFIER → v ≡ identifier (recordText s (recordOf tb i))
+    pub as-number : word tb i 0 ≡ NUMBER → v ≡ number (recordText s (recordOf tb i))
+    pub as-string : word tb i 0 ≡ STRING → v ≡ quotedString (recordText s (recordOf tb i))
+    pub as-list : (end : ℕ) → end ≡ i + word tb i 4 → word tb i 0 ≡ LIST → IsList s tb i end v
+    pub as-map : (end : ℕ) → end ≡ i + word tb i 4 → word tb i 0 ≡ MAP → IsMap s tb i end v
+    pub as-variant : (end : ℕ) → end ≡ i + word tb i 4 → word tb i 0 ≡ VARIANT → IsVariant s tb i end v
 
   pub value-here : (i : ℕ) (v : TokenValue) → ValueAt s tb i v → ValueHere i v
   value-here i v h =
@@ -240,4 +241,4 @@ turn-at s tb end j (pair k v kvs) h = (h .0, (h .1, turn-at s tb end (j + treeSi
 pub as-items : {s tb : List ℕ} {end j : ℕ} {kvs : KeyValues} {cl : List Slice} → PairedAt s tb end j kvs cl → InsideAt s tb end j (inTurn kvs) cl
 as-items {s} {tb} {end} {j} {kvs} {cl} h =
     let e : treesSize (inTurn kvs) ≡ pairsSize kvs = turn-size kvs in
-    record { values = turn-at s tb end j kvs (h .pairs); closing = subst (λ (n : ℕ). CommentsAt s tb 9 (j + n) cl) (sym e) (h .closing); all = omega (arith, h .all) }
+    record { values = turn-at s tb end j kvs (h .pairs); closing = subst (λ (n : ℕ). CommentsAt s tb CLOSING_COMMENT (j + n) cl) (sym e) (h .closing); all = omega (arith, h .all) }

@@ -10,6 +10,7 @@ use lib.ListN.{length, take, drop, getD, length-drop, drop-of-length-le}
 use lib.Seq.{take-all, drop-cons, length-take-le}
 use borrow.Author.Tests.{ne-eqb}
 use Rattle.eon_spec.specs.Base.{elem, eqList}
+use Rattle.eon_spec.specs.RecordKind.{LIST, MAP}
 use Rattle.eon_spec.specs.Records.{Record}
 use Rattle.eon_spec.specs.Calls.{recordText}
 use Rattle.eon_table.specs.Words.{part}
@@ -58,17 +59,17 @@ module _ (a b : List ℕ) (l : length a ≡ length b) where
 -- ---- the text of a record
 
 module _ (s : List ℕ) (r : Record) where
-  pub text-none : elem (r .kind) (4 ∷ 5 ∷ []) ≡ true → [] ≡ recordText s r
+  pub text-none : elem (r .kind) (LIST ∷ MAP ∷ []) ≡ true → [] ≡ recordText s r
   text-none e = sym (ap (λ (b : Bool). cond b [] (part s (r .start) (r .textEnd))) e)
 
-  pub list-textless : r .kind ≡ 4 → [] ≡ recordText s r
-  list-textless e = text-none (ap (λ (x : ℕ). elem x (4 ∷ 5 ∷ [])) e)
+  pub list-textless : r .kind ≡ LIST → [] ≡ recordText s r
+  list-textless e = text-none (ap (λ (x : ℕ). elem x (LIST ∷ MAP ∷ [])) e)
 
-  pub map-textless : r .kind ≡ 5 → [] ≡ recordText s r
-  map-textless e = text-none (ap (λ (x : ℕ). elem x (4 ∷ 5 ∷ [])) e)
+  pub map-textless : r .kind ≡ MAP → [] ≡ recordText s r
+  map-textless e = text-none (ap (λ (x : ℕ). elem x (LIST ∷ MAP ∷ [])) e)
 
-  pub text-some : (r .kind ≡ 4 → ⊥) → (r .kind ≡ 5 → ⊥) → part s (r .start) (r .textEnd) ≡ recordText s r
+  pub text-some : (r .kind ≡ LIST → ⊥) → (r .kind ≡ MAP → ⊥) → part s (r .start) (r .textEnd) ≡ recordText s r
   text-some g h = sym (ap (λ (b : Bool). cond b [] (part s (r .start) (r .textEnd))) has)
     where
-      has : elem (r .kind) (4 ∷ 5 ∷ []) ≡ false
-      has = rw (ne-eqb (r .kind) 4 g, ne-eqb (r .kind) 5 h)
+      has : elem (r .kind) (LIST ∷ MAP ∷ []) ≡ false
+      has = rw (ne-eqb (r .kind) LIST g, ne-eqb (r .kind) MAP h)

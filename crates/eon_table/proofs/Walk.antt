@@ -10,6 +10,7 @@ use native.Mathlib.Decide.{decLe}
 use lib.ListN.{length}
 use lib.Dec.{ltb, eqb}
 use borrow.Author.Tests.{lt-ltb, le-ltb, eq-eqb, ne-eqb, ltb-true}
+use Rattle.eon_spec.specs.RecordKind.{PREFIX_COMMENT, CLOSING_COMMENT}
 use Rattle.eon_spec.specs.Tree.{Span, Slice, TokenTree, TokenValue, TokenTrees, KeyValues, tree, identifier, number, quotedString, listOf, mapOf, variantOf, noTrees, _∷ᵗ_, noPairs, pair}
 use Rattle.eon_spec.specs.Layout.{prefixOf, suffixOf}
 use Rattle.eon_laws.proofs.Facts.{clash, and-left}
@@ -61,7 +62,7 @@ module _ (s tb : List ℕ) where
   value-size i (variantOf n vs cl) h = h .0 .isSize
 
   -- no value's record is a prefix comment
-  pub value-not : (i : ℕ) (v : TokenValue) → ValueAt s tb i v → word tb i 0 ≡ 7 → ⊥
+  pub value-not : (i : ℕ) (v : TokenValue) → ValueAt s tb i v → word tb i 0 ≡ PREFIX_COMMENT → ⊥
   value-not i v h e =
       let k : word tb i 0 ≡ kindOf v = value-kind i v h in
       let l : kindOf v < 7 = kind-low v in
@@ -77,8 +78,8 @@ module _ (s tb : List ℕ) where
   bare-suffix end i sp v x h = subst (λ (j : ℕ). SuffixAt s tb end (j + valueSize v) x) (add-zero i) (h .2)
 
   -- a tree does not start with a closing comment
-  pub tree-not-closing : (end i : ℕ) (t : TokenTree) → TreeAt s tb end i t → word tb i 0 ≡ 9 → ⊥
-  tree-not-closing end i (tree sp (c ∷ cs) v x) h e = let q : word tb i 0 ≡ 7 = unfold TreeAt in h .0 .0 .isKind in omega arith
+  pub tree-not-closing : (end i : ℕ) (t : TokenTree) → TreeAt s tb end i t → word tb i 0 ≡ CLOSING_COMMENT → ⊥
+  tree-not-closing end i (tree sp (c ∷ cs) v x) h e = let q : word tb i 0 ≡ PREFIX_COMMENT = unfold TreeAt in h .0 .0 .isKind in omega arith
   tree-not-closing end i (tree sp [] v x) h e =
       let q : word tb i 0 ≡ kindOf v = value-kind i v (bare-value end i sp v x h) in
       let l : kindOf v < 7 = kind-low v in
@@ -110,13 +111,13 @@ comments-kind s tb k i (c ∷ cs) h j a b = go (decLe j i) (comments-kind s tb k
     go (no d) f = f (omega arith) (omega arith)
 
 -- where the prefix comments end
-pub prefix-ends : (s tb : List ℕ) (i r : ℕ) (p : List Slice) → CommentsAt s tb 7 i p → (word tb (i + length p) 0 ≡ 7 → ⊥) → AfterPrefix tb i r → r ≡ i + length p
+pub prefix-ends : (s tb : List ℕ) (i r : ℕ) (p : List Slice) → CommentsAt s tb PREFIX_COMMENT i p → (word tb (i + length p) 0 ≡ PREFIX_COMMENT → ⊥) → AfterPrefix tb i r → r ≡ i + length p
 prefix-ends s tb i r p h e a = go (decLe (i + length p) r) (decLe r (i + length p))
   where
     go : Dec (i + length p ≤ r) → Dec (r ≤ i + length p) → r ≡ i + length p
     go (yes x) (yes y) = omega arith
     go (yes x) (no y) = absurd (e (a .prefix (i + length p) (omega arith) (omega arith)))
-    go (no x) d = absurd (a .ends (comments-kind s tb 7 i p h r (a .from) (omega arith)))
+    go (no x) d = absurd (a .ends (comments-kind s tb PREFIX_COMMENT i p h r (a .from) (omega arith)))
 
 -- ---- a tree's parts
 
@@ -139,7 +140,7 @@ module _ (s tb : List ℕ) where
 
     pub tree-texts : (t : TokenTree) → TreeAt s tb end i t → AfterPrefix tb i r → Texts s tb i r
     unfolding TreeAt
-    tree-texts (tree sp p v x) h a = subst (λ (j : ℕ). Texts s tb i j) (sym (tree-head (tree sp p v x) h a)) (comments-texts s tb 7 i p (h .0))
+    tree-texts (tree sp p v x) h a = subst (λ (j : ℕ). Texts s tb i j) (sym (tree-head (tree sp p v x) h a)) (comments-texts s tb PREFIX_COMMENT i p (h .0))
 
     tree-ends : (t : TokenTree) → TreeAt s tb end i t → AfterPrefix tb i r → r + word tb r 4 + suffixSize (suffixOf t) ≡ i + treeSize t
     unfolding TreeAt treeSize
@@ -172,7 +173,7 @@ module _ (s tb : List ℕ) where
 
 module _ (s tb : List ℕ) (i : ℕ) where
   pub trees-inside : (vs : TokenTrees) (cl : List Slice) (k : ℕ) → HeadAt s tb k (1 + (treesSize vs + length cl)) i →
-      TreesAt s tb (i + (1 + (treesSize vs + length cl))) (i + 1) vs → CommentsAt s tb 9 (i + 1 + treesSize vs) cl →
+      TreesAt s tb (i + (1 + (treesSize vs + length cl))) (i + 1) vs → CommentsAt s tb CLOSING_COMMENT (i + 1 + treesSize vs) cl →
       InsideAt s tb (i + word tb i 4) (i + 1) vs cl
   trees-inside vs cl k h a b =
       let e : word tb i 4 ≡ 1 + (treesSize vs + length cl) = h .isSize in
@@ -206,11 +207,11 @@ module _ (s tb : List ℕ) (i : ℕ) where
 
 more-off : (tb : List ℕ) (end j : ℕ) → end ≤ j → moreAt tb end j ≡ false
 unfolding moreAt
-more-off tb end j h = ap (λ (x : Bool). x && not (eqb (word tb j 0) 9)) (le-ltb j end h)
+more-off tb end j h = ap (λ (x : Bool). x && not (eqb (word tb j 0) CLOSING_COMMENT)) (le-ltb j end h)
 
-more-nine : (tb : List ℕ) (end j : ℕ) → word tb j 0 ≡ 9 → moreAt tb end j ≡ false
+more-ends : (tb : List ℕ) (end j : ℕ) → word tb j 0 ≡ CLOSING_COMMENT → moreAt tb end j ≡ false
 unfolding moreAt
-more-nine tb end j h = ap (λ (x : Bool). ltb j end && not x) (eq-eqb (word tb j 0) 9 h) ∙ off (ltb j end)
+more-ends tb end j h = ap (λ (x : Bool). ltb j end && not x) (eq-eqb (word tb j 0) CLOSING_COMMENT h) ∙ off (ltb j end)
   where
     off : (b : Bool) → (b && false) ≡ false
     off true = refl
@@ -218,7 +219,7 @@ more-nine tb end j h = ap (λ (x : Bool). ltb j end && not x) (eq-eqb (word tb j
 
 pub more-in : (tb : List ℕ) (end j : ℕ) → moreAt tb end j ≡ true → j < end
 unfolding moreAt
-more-in tb end j h = ltb-true j end (and-left (ltb j end) (not (eqb (word tb j 0) 9)) h)
+more-in tb end j h = ltb-true j end (and-left (ltb j end) (not (eqb (word tb j 0) CLOSING_COMMENT)) h)
 
 module _ (s tb : List ℕ) (end : ℕ) where
   pub inside-next : (i : ℕ) (t : TokenTree) (ts : TokenTrees) (cl : List Slice) → InsideAt s tb end i (t ∷ᵗ ts) cl → InsideAt s tb end (i + treeSize t) ts cl
@@ -226,7 +227,7 @@ module _ (s tb : List ℕ) (end : ℕ) where
   inside-next i t ts cl h =
       record {
         values = h .values .1;
-        closing = subst (λ (j : ℕ). CommentsAt s tb 9 j cl) (omega arith) (h .closing);
+        closing = subst (λ (j : ℕ). CommentsAt s tb CLOSING_COMMENT j cl) (omega arith) (h .closing);
         all = let e : end ≡ i + (treeSize t + treesSize ts) + length cl = h .all in omega arith;
       }
 
@@ -238,17 +239,17 @@ module _ (s tb : List ℕ) (end : ℕ) where
   unfolding treesSize
   inside-in i t ts cl h = let e : end ≡ i + (treeSize t + treesSize ts) + length cl = h .all in let p : 1 ≤ treeSize t = tree-pos t in omega arith
 
-  pub inside-closing : (i : ℕ) (cl : List Slice) → InsideAt s tb end i noTrees cl → CommentsAt s tb 9 i cl
+  pub inside-closing : (i : ℕ) (cl : List Slice) → InsideAt s tb end i noTrees cl → CommentsAt s tb CLOSING_COMMENT i cl
   unfolding treesSize
-  inside-closing i cl h = subst (λ (j : ℕ). CommentsAt s tb 9 j cl) (add-zero i) (h .closing)
+  inside-closing i cl h = subst (λ (j : ℕ). CommentsAt s tb CLOSING_COMMENT j cl) (add-zero i) (h .closing)
 
   pub inside-end : (i : ℕ) (cl : List Slice) → InsideAt s tb end i noTrees cl → end ≡ i + length cl
   unfolding treesSize
   inside-end i cl h = let e : end ≡ i + 0 + length cl = h .all in omega arith
 
-  more-closing : (j : ℕ) (cl : List Slice) → CommentsAt s tb 9 j cl → end ≡ j + length cl → moreAt tb end j ≡ false
+  more-closing : (j : ℕ) (cl : List Slice) → CommentsAt s tb CLOSING_COMMENT j cl → end ≡ j + length cl → moreAt tb end j ≡ false
   more-closing j [] h e = more-off tb end j (omega arith)
-  more-closing j (c ∷ cs) h e = more-nine tb end j (h .0 .isKind)
+  more-closing j (c ∷ cs) h e = more-ends tb end j (h .0 .isKind)
 
   pub more-none : (j : ℕ) (cl : List Slice) → InsideAt s tb end j noTrees cl → moreAt tb end j ≡ false
   more-none j cl h = more-closing j cl (inside-closing j cl h) (inside-end j cl h)
@@ -256,7 +257,7 @@ module _ (s tb : List ℕ) (end : ℕ) where
   pub more-tree : (j : ℕ) (t : TokenTree) → TreeAt s tb end j t → j < end → moreAt tb end j ≡ true
   unfolding moreAt
   more-tree j t h l =
-      ap (λ (x : Bool). x && not (eqb (word tb j 0) 9)) (lt-ltb j end l) ∙ ap not (ne-eqb (word tb j 0) 9 (tree-not-closing s tb end j t h))
+      ap (λ (x : Bool). x && not (eqb (word tb j 0) CLOSING_COMMENT)) (lt-ltb j end l) ∙ ap not (ne-eqb (word tb j 0) CLOSING_COMMENT (tree-not-closing s tb end j t h))
 
   pub paired-first : (i : ℕ) (k v : TokenTree) (ts : KeyValues) (cl : List Slice) → PairedAt s tb end i (pair k v ts) cl → PairAt s tb end i k v
   unfolding PairsAt
@@ -267,7 +268,7 @@ module _ (s tb : List ℕ) (end : ℕ) where
   paired-next i k v ts cl h =
       record {
         pairs = h .pairs .2;
-        closing = subst (λ (j : ℕ). CommentsAt s tb 9 j cl) (omega arith) (h .closing);
+        closing = subst (λ (j : ℕ). CommentsAt s tb CLOSING_COMMENT j cl) (omega arith) (h .closing);
         all = let e : end ≡ i + (treeSize k + (treeSize v + pairsSize ts)) + length cl = h .all in omega arith;
       }
 
@@ -278,16 +279,16 @@ module _ (s tb : List ℕ) (end : ℕ) where
       let p : 1 ≤ treeSize k = tree-pos k in
       omega arith
 
-  pub paired-closing : (i : ℕ) (cl : List Slice) → PairedAt s tb end i noPairs cl → CommentsAt s tb 9 i cl
+  pub paired-closing : (i : ℕ) (cl : List Slice) → PairedAt s tb end i noPairs cl → CommentsAt s tb CLOSING_COMMENT i cl
   unfolding pairsSize
-  paired-closing i cl h = subst (λ (j : ℕ). CommentsAt s tb 9 j cl) (add-zero i) (h .closing)
+  paired-closing i cl h = subst (λ (j : ℕ). CommentsAt s tb CLOSING_COMMENT j cl) (add-zero i) (h .closing)
 
   pub paired-end : (i : ℕ) (cl : List Slice) → PairedAt s tb end i noPairs cl → end ≡ i + length cl
   unfolding pairsSize
   paired-end i cl h = let e : end ≡ i + 0 + length cl = h .all in omega arith
 
   pub paired-texts : (j : ℕ) (cl : List Slice) → PairedAt s tb end j noPairs cl → Texts s tb j end
-  paired-texts j cl h = subst (λ (k : ℕ). Texts s tb j k) (sym (paired-end j cl h)) (comments-texts s tb 9 j cl (paired-closing j cl h))
+  paired-texts j cl h = subst (λ (k : ℕ). Texts s tb j k) (sym (paired-end j cl h)) (comments-texts s tb CLOSING_COMMENT j cl (paired-closing j cl h))
 
   pub no-more : (j : ℕ) (cl : List Slice) → PairedAt s tb end j noPairs cl → moreAt tb end j ≡ false
   no-more j cl h = more-closing j cl (paired-closing j cl h) (paired-end j cl h)
