@@ -1,10 +1,10 @@
 -- Facts that tests say, for the laws.
-use mathlib.Core.Path.{_≡_, refl}
+use mathlib.Core.Path.{_≡_, refl, sym, _∙_}
 use mathlib.Core.Bool.{Bool, true, false, _&&_, _||_}
-use mathlib.Core.List.{List, [], _∷_}
+use mathlib.Core.List.{List, [], _∷_, _++_}
 use Prim.Native.Nat.{ℕ, _≤_, _<_}
 use native.Mathlib.Omega.{arith}
-use Rattle.eon_spec.specs.Base.{eqList}
+use Rattle.eon_spec.specs.Base.{elem, eqList}
 use lib.Dec.{leb, ltb, eqb, T, leb→le, ltb→lt, nltb→le, eqb→eq, eqb-refl}
 
 pub clash : {A : Type 0} {b : Bool} → b ≡ true → b ≡ false → A
@@ -60,6 +60,14 @@ ltb-false m n h = false-of (ltb m n) λ e. omega (arith, lt-of m n e)
 pub le-of-not : (m n : ℕ) → ltb m n ≡ false → n ≤ m
 le-of-not m n e = nltb→le m n (rw e tt)
 
+pub eqb-sym : (x y : ℕ) → eqb x y ≡ eqb y x
+eqb-sym x y = go (eqb x y) (eqb y x) refl refl
+  where
+    go : (a b : Bool) → eqb x y ≡ a → eqb y x ≡ b → eqb x y ≡ eqb y x
+    go true b e f = rw (eq-of x y e)
+    go false true e f = rw (eq-of y x f)
+    go false false e f = e ∙ sym f
+
 -- equal lists
 pub list-same : (s : List ℕ) → eqList s s ≡ true
 list-same [] = refl
@@ -75,3 +83,12 @@ list-eq (x ∷ s) (y ∷ t) e = rw (eq-of x y (and-left (eqb x y) (eqList s t) e
 pub either : {A : Type 0} (b : Bool) (P : A → Type 0) (x y : A) → (b ≡ true → P x) → (b ≡ false → P y) → P (elim b [ true ↦ x | false ↦ y ])
 either true P x y f g = f refl
 either false P x y f g = g refl
+
+-- in one list behind another
+pub elem-append : (x : ℕ) (a b : List ℕ) → elem x (a ++ b) ≡ elem x a || elem x b
+elem-append x [] b = refl
+elem-append x (y ∷ a) b = go (eqb x y) (elem-append x a b)
+  where
+    go : (p : Bool) → elem x (a ++ b) ≡ elem x a || elem x b → p || elem x (a ++ b) ≡ (p || elem x a) || elem x b
+    go true e = refl
+    go false e = e

@@ -15,19 +15,11 @@ use Rattle.eon_spec.specs.Unquote.{Unescaped, value, fault, push, unescape, pla
 use Rattle.eon_spec.specs.declared.Refusal.{Refusal}
 use Rattle.eon_spec.specs.declared.Which.the-variants.{Quoted, Scratch}
 use Rattle.eon_spec.specs.Calls.{done, refusedWith, After, after, nowhere, checked, written, fill, Part, partOf, opening, isPart, handedBack, unescapedOutcome, unquoteCall, pick, showCall}
-use Rattle.eon_laws.proofs.Facts.{clash, and-left, and-right, nor-left, nor-right, eq-of, eqb-same, le-of, list-eq, le-of-not}
+use Rattle.eon_laws.proofs.Facts.{clash, and-left, and-right, nor-left, nor-right, eq-of, eqb-same, le-of, list-eq, le-of-not, eqb-sym, elem-append}
 use Rattle.eon_laws.proofs.Encode.{encode-append, encode-decode}
 
 no-value : {A : Type 0} (n : ℕ) (v : List ℕ) → fault n ≡ value v → A
 no-value n v e = absurd (let z : _≡_ {A = ℕ} 0 1 = cc in omega arith)
-
-eqb-sym : (x y : ℕ) → eqb x y ≡ eqb y x
-eqb-sym x y = go (eqb x y) (eqb y x) refl refl
-  where
-    go : (a b : Bool) → eqb x y ≡ a → eqb y x ≡ b → eqb x y ≡ eqb y x
-    go true b e f = rw (eq-of x y e)
-    go false true e f = rw (eq-of y x f)
-    go false false e f = e ∙ sym f
 
 -- ---- ASCII in a text and in its code points
 
@@ -83,14 +75,6 @@ starts-encoded (x ∷ m) (c ∷ d) h = go (leb (suc c) 128) refl (starts-encoded
         wide (encodeChar c) (high c k) ∙ sym (ap (λ (y : Bool). y && eqList (take (length m) d) m) (ne-eqb c x (λ f. omega (arith, h .0))))
 
 -- an ASCII byte that the text lacks is no code point of it
-elem-append : (x : ℕ) (a b : List ℕ) → elem x (a ++ b) ≡ elem x a || elem x b
-elem-append x [] b = refl
-elem-append x (y ∷ a) b = go (eqb x y) (elem-append x a b)
-  where
-    go : (p : Bool) → elem x (a ++ b) ≡ elem x a || elem x b → p || elem x (a ++ b) ≡ (p || elem x a) || elem x b
-    go true e = refl
-    go false e = e
-
 elem-encoded : (x : ℕ) (d : List ℕ) → x < 128 → elem x (encode d) ≡ false → elem x d ≡ false
 unfolding encode
 elem-encoded x [] h e = refl

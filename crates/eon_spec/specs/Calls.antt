@@ -3,6 +3,7 @@
 use Prim.Native.Nat.{ℕ, _+_, _-_}
 use mathlib.Core.Bool.{Bool, true, false, _&&_, _||_, not, cond}
 use mathlib.Core.List.{List, [], _∷_, _++_}
+use mathlib.Core.Option.{Option, none, some}
 use lib.ListN.{length, take, drop}
 use lib.Dec.{ltb, leb, eqb}
 use Rattle.eon_spec.specs.declared.Refusal.{Refusal}
@@ -47,6 +48,11 @@ place n = record { start = n; end = n }
 
 abbrev pub nowhere : ℕ → Refusal
 nowhere n = refusal n (place 0)
+
+-- what there is; where there is nothing, a refusal
+abbrev pub orRefused : {A : Type 0} → ℕ → Option A → Outcome A
+orRefused n none = refusedWith (nowhere n)
+orRefused n (some a) = done a
 
 -- ---- a text
 
