@@ -12,7 +12,7 @@ use Rattle.eon_spec.specs.Calls.{Outcome, done, refusedWith, fill, fillBoth}
 answers-not : {A B : Type 0} (a : A) (r : Refusal) → done a ≡ refusedWith r → B
 answers-not a r e = absurd (let z : _≡_ {A = ℕ} 0 1 = cc in omega arith)
 
-pub fill-keeps : {A : Type 0} (old : List ℕ) (x : Outcome (A × List ℕ)) (r : Refusal) → (fill old x) .answer ≡ refusedWith r → (fill old x) .memory ≡ old
+pub fill-keeps : {A E : Type 0} (old : List E) (x : Outcome (A × List E)) (r : Refusal) → (fill old x) .answer ≡ refusedWith r → (fill old x) .memory ≡ old
 unfolding fill
 fill-keeps old (refusedWith q) r e = refl
 fill-keeps {A} old (done (a, new)) r e = go (leb (length new) (length old)) refl e

@@ -23,3 +23,5 @@ pub mod Encode
 pub mod Shown
 pub mod Compare
 pub mod Kept
+pub mod Pick
+pub mod Covers

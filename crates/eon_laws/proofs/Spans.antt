@@ -1,5 +1,6 @@
--- Where the parts of a tree stand: each span lies within the text, and a slice is the text's bytes at its span. Its tokens take no more
--- bytes than the text has, so that a text of n bytes has at most n + 1 records. And how deep a tree is.
+-- Where the parts of a tree stand: each span lies within the text, and a slice is the text's bytes at its span; where the text has a byte,
+-- so has the tree. Its tokens take no more bytes than the text has, so that a text of n bytes has at most n + 1 records. And how deep a tree
+-- is.
 use mathlib.Core.Path.{_≡_, refl, subst}
 use mathlib.Core.Bool.{Bool, true, false, _&&_, not}
 use mathlib.Core.List.{List, [], _∷_, _++_}
@@ -49,6 +50,14 @@ module _ (s : List ℕ) where
     pub PairsFit : KeyValues → Type 0
     PairsFit noPairs = Unit {0}
     PairsFit (pair k v kvs) = TreeFits k × TreeFits v × PairsFit kvs
+
+-- a tree whose span has a byte, and trees that all are such
+abbrev pub HasByte : TokenTree → Type 0
+HasByte (tree p q v x) = p .start < p .end
+
+abbrev HaveBytes : TokenTrees → Type 0
+HaveBytes noTrees = Unit {0}
+HaveBytes (t ∷ᵗ ts) = HasByte t × HaveBytes ts
 
 -- ---- what the readers keep
 
@@ -142,13 +151,13 @@ module _ (s : List ℕ) where
   append-holds [] q h k = k
   append-holds (c ∷ p) q h k = (h .0, append-holds p q (h .1) k)
 
-  -- a tree that fits, in which a value stands inside fewer than k containers
+  -- a tree that fits and has a byte, in which a value stands inside fewer than k containers
   abbrev FitsBelow : ℕ → TokenTree → Type 0
-  FitsBelow k t = TreeFits s t × (height t < k)
+  FitsBelow k t = TreeFits s t × (height t < k) × HasByte t
 
   prefix-fits : (k : ℕ) (p : List Slice) (v : TokenTree) → HoldsAll s p → FitsBelow k v → FitsBelow k (withPrefix p v)
   unfolding height
-  prefix-fits k p (tree r q v x) h f = ((f .0 .0, append-holds p q h (f .0 .1), f .0 .2, f .0 .3), f .1)
+  prefix-fits k p (tree r q v x) h f = ((f .0 .0, append-holds p q h (f .0 .1), f .0 .2, f .0 .3), f .1, f .2)
 
   prefix-bytes : (p : List Slice) (v : TokenTree) → treeBytes (withPrefix p v) ≡ commentsBytes p + treeBytes v
   unfolding treeBytes
@@ -156,7 +165,7 @@ module _ (s : List ℕ) where
 
   suffix-fits : (k : ℕ) (y : Option Slice) (v : TokenTree) → HoldsSuffix s y → FitsBelow k v → FitsBelow k (withSuffix y v)
   unfolding height
-  suffix-fits k y (tree r q v x) h f = ((f .0 .0, f .0 .1, f .0 .2, h), f .1)
+  suffix-fits k y (tree r q v x) h f = ((f .0 .0, f .0 .1, f .0 .2, h), f .1, f .2)
 
   suffix-bytes : (y : Option Slice) (v : TokenTree) → treeBytes (withSuffix y v) ≤ treeBytes v + suffixBytes y
   unfolding treeBytes
@@ -187,7 +196,7 @@ module _ (s : List ℕ) where
   mapBytes m = pairsBytes (m .keyValues) + commentsBytes (m .closing)
 
   abbrev ListFits : ℕ → TokenList → Cursor → Type 0
-  ListFits k l d = (TreesFit s (l .values) × HoldsAll s (l .closing)) × (heightOf (l .values) ≤ k)
+  ListFits k l d = (TreesFit s (l .values) × HoldsAll s (l .closing)) × (heightOf (l .values) ≤ k) × HaveBytes (l .values)
 
   abbrev MapFits : ℕ → TokenMap → Cursor → Type 0
   MapFits k m d = (PairsFit s (m .keyValues) × HoldsAll s (m .closing)) × (heightOfPairs (m .keyValues) ≤ k)
@@ -202,14 +211,14 @@ module _ (s : List ℕ) where
         p = commentsAt-ok c g
 
         go : (b : Bool) → atEnd ((commentsAt c) .1) ≡ b → ((d : Cursor) → Good d → Ok d (ListFits k) listBytes (listContents value f d)) → Ok c (ListFits k) listBytes (listContents value (suc f) c)
-        go true e rec = rw (e, listContents) (((tt, p .0), omega arith), weaken c ((commentsAt c) .1) (commentsBytes ((commentsAt c) .0)) (0 + commentsBytes ((commentsAt c) .0)) (omega arith) (p .1))
+        go true e rec = rw (e, listContents) (((tt, p .0), omega arith, tt), weaken c ((commentsAt c) .1) (commentsBytes ((commentsAt c) .0)) (0 + commentsBytes ((commentsAt c) .0)) (omega arith) (p .1))
         go false e rec =
             rw (e, listContents)
             (bind-ok ((commentsAt c) .1) (λ t d. FitsBelow k t) treeBytes (ListFits k) listBytes c (value ((commentsAt c) .1)) _ (ok ((commentsAt c) .1) (p .1 .good)) λ v d hv mv.
             let j = comma-ok k v d hv (mv .good) in
             bind-ok ((afterComma v d) .1) (ListFits k) listBytes (ListFits k) listBytes c (listContents value f ((afterComma v d) .1)) _ (rec ((afterComma v d) .1) (j .1)) λ l e hl ml.
             let x = prefix-fits k ((commentsAt c) .0) ((afterComma v d) .0) (p .0) (j .0) in (
-              (((x .0, hl .0 .0), hl .0 .1), omega (arith, x .1, hl .1)),
+              (((x .0, hl .0 .0), hl .0 .1), omega (arith, x .1, hl .1), (x .2, hl .2)),
               record { good = ml .good; took = rw (prefix-bytes ((commentsAt c) .0) ((afterComma v d) .0)) (omega (arith, p .1 .took, mv .took, j .2, ml .took)) },
             ))
 
@@ -283,7 +292,7 @@ module _ (s : List ℕ) where
       value-ok Comment = tt
       value-ok OpenList =
           close-ok (behind (spanOf t) ts) (ListFits k) listBytes CloseList (listInside value (behind (spanOf t) ts)) (λ x. listOf (x .values) (x .closing)) (omega arith)
-          (listInside-ok (behind (spanOf t) ts) ((past l t ts g) .good)) (λ x d e h q. h) (λ x. omega (arith, held-some (t .slice)))
+          (listInside-ok (behind (spanOf t) ts) ((past l t ts g) .good)) (λ x d e h q. (h .0, h .1)) (λ x. omega (arith, held-some (t .slice)))
       value-ok CloseList = tt
       value-ok OpenBrace =
           close-ok (behind (spanOf t) ts) (MapFits k) mapBytes CloseBrace (mapInside value (behind (spanOf t) ts)) (λ x. mapOf (x .keyValues) (x .closing)) (omega arith)
@@ -308,7 +317,7 @@ module _ (s : List ℕ) where
         let x = suffix-ok d (mv .good) in
         let w = within d (mv .good) in
         let y = m .good .1 .0 .byte in (
-          (((omega (arith, hv .1), w), h, hv .0, x .0), omega (arith, hv .2)),
+          (((omega (arith, hv .1), w), h, hv .0, x .0), omega (arith, hv .2), omega (arith, hv .1, y)),
           record { good = x .1 .good; took = omega (arith, m .took, mv .took, x .1 .took) },
         )
 
@@ -330,7 +339,7 @@ module _ (s : List ℕ) where
 
     -- the depth of 128 is 64 containers, a root without brackets counted
     abbrev OkParsed : Parsed → Type 0
-    OkParsed (parsed t) = TreeFits s t × (rootBytes t ≤ length s) × (height t ≤ 64)
+    OkParsed (parsed t) = TreeFits s t × (rootBytes t ≤ length s) × (height t ≤ 64) × (0 < length s → HasByte t)
     OkParsed (refusedBy r) = Unit {0}
 
     none-ok : (c : Cursor) (t : TokenTree) → OkParsed (parsed t) → OkParsed (noneLeft c t)
@@ -338,16 +347,16 @@ module _ (s : List ℕ) where
     none-ok (behind l []) t h = h
     none-ok (behind l (x ∷ xs)) t h = tt
 
-    top-list-ok : (vs : TokenTrees) (cl : List Slice) → TreesFit s vs → HoldsAll s cl → heightOf vs ≤ 64 → treesBytes vs + commentsBytes cl ≤ length s → OkParsed (parsed (topList len vs cl))
+    top-list-ok : (vs : TokenTrees) (cl : List Slice) → TreesFit s vs → HoldsAll s cl → heightOf vs ≤ 64 → HaveBytes vs → treesBytes vs + commentsBytes cl ≤ length s → OkParsed (parsed (topList len vs cl))
     unfolding treeBytes rootBytes commentsBytes suffixBytes height
-    top-list-ok noTrees cl h k d b = (((omega arith, omega arith), tt, (tt, k), tt), omega arith, omega arith)
-    top-list-ok (t ∷ᵗ noTrees) cl h k d b = (h .0, omega (arith, root-least t), omega arith)
-    top-list-ok (t ∷ᵗ (u ∷ᵗ us)) cl h k d b = (((omega arith, omega arith), tt, (h, k), tt), omega arith, omega arith)
+    top-list-ok noTrees cl h k d w b = (((omega arith, omega arith), tt, (tt, k), tt), omega arith, omega arith, λ y. omega arith)
+    top-list-ok (t ∷ᵗ noTrees) cl h k d w b = (h .0, omega (arith, root-least t), omega arith, λ y. w .0)
+    top-list-ok (t ∷ᵗ (u ∷ᵗ us)) cl h k d w b = (((omega arith, omega arith), tt, (h, k), tt), omega arith, omega arith, λ y. omega arith)
 
     top-ok : (c : Cursor) (m : Read TokenMap) (l : Read TokenList) → Ok c (MapFits 64) mapBytes m → Ok c (ListFits 64) listBytes l → OkParsed (topOf len m l)
     unfolding treeBytes rootBytes commentsBytes suffixBytes height
-    top-ok c (read m d) l x y = none-ok d _ (((omega arith, omega arith), tt, x .0 .0, tt), omega (arith, x .1 .took, within d (x .1 .good)), x .0 .1)
-    top-ok c (refused ra la) (read l d) x y = none-ok d (topList len (l .values) (l .closing)) (top-list-ok (l .values) (l .closing) (y .0 .0 .0) (y .0 .0 .1) (y .0 .1) (omega (arith, y .1 .took, within d (y .1 .good))))
+    top-ok c (read m d) l x y = none-ok d _ (((omega arith, omega arith), tt, x .0 .0, tt), omega (arith, x .1 .took, within d (x .1 .good)), x .0 .1, λ y. omega arith)
+    top-ok c (refused ra la) (read l d) x y = none-ok d (topList len (l .values) (l .closing)) (top-list-ok (l .values) (l .closing) (y .0 .0 .0) (y .0 .0 .1) (y .0 .1) (y .0 .2) (omega (arith, y .1 .took, within d (y .1 .good))))
     top-ok c (refused ra la) (refused rb lb) x y = tt
 
     parse-ok : (ts : List Token) → Row s 0 ts → OkParsed (parseTop len ts)
@@ -379,3 +388,7 @@ module _ (s : List ℕ) (formed : isUtf8 s ≡ true) where
   -- "a text of n bytes needs at most n + 1 records"
   pub few-records : (t : TokenTree) → parse s ≡ parsed t → length (treeRecords t) ≤ suc (length s)
   few-records t e = rw (tree-size t) (omega (arith, root-some t, tree-bytes t e))
+
+  -- the tree of a text that has a byte has one
+  pub tree-has-byte : (t : TokenTree) → parse s ≡ parsed t → 0 < length s → HasByte t
+  tree-has-byte t e = (tree-ok-of t e) .3

@@ -34,12 +34,15 @@ abbrev pub then : {A B : Type 0} → Outcome A → (A → Outcome B) → Outcome
 then (done a) f = f a
 then (refusedWith r) f = refusedWith r
 
--- a call's answer, and what the lent memory holds after it
-pub record After (A : Type 0) : Type 0 where
+-- a call's answer, and what the lent memory holds after it: entries E, which are numbers but for the list of hits
+pub record AfterIn (E A : Type 0) : Type 0 where
   pub answer : Outcome A
-  pub memory : List ℕ
+  pub memory : List E
 
-abbrev pub after : {A : Type 0} → Outcome A → List ℕ → After A
+abbrev pub After : Type 0 → Type 0
+After A = AfterIn ℕ A
+
+abbrev pub after : {A E : Type 0} → Outcome A → List E → AfterIn E A
 after a m = record { answer = a; memory = m }
 
 -- a refusal "0, 0", and one at a place of no length
@@ -75,11 +78,11 @@ readText s = checked s λ t. parsedOutcome (parse t)
 -- ---- lent memory
 
 -- "Words past the tree keep their content, as do bytes past any written answer"
-abbrev pub written : List ℕ → List ℕ → List ℕ
+abbrev pub written : {E : Type 0} → List E → List E → List E
 written new old = new ++ drop (length new) old
 
 -- an answer and what is written for it; 14 if that is longer than the memory
-unfoldable pub fill : {A : Type 0} → List ℕ → Outcome (A × List ℕ) → After A
+unfoldable pub fill : {A E : Type 0} → List E → Outcome (A × List E) → AfterIn E A
 fill old (refusedWith r) = after (refusedWith r) old
 fill old (done (a, new)) =
     elim (leb (length new) (length old)) [ true ↦ after (done a) (written new old) | false ↦ after (refusedWith (nowhere 14)) old ]

@@ -10,3 +10,4 @@ pub mod Layout
 pub mod Unquote
 pub mod Calls
 pub mod Runs
+pub mod Pick

@@ -22,6 +22,14 @@ pub enum Answer {
     Refused(Refusal),
 }
 
+// A record that shares a byte with a range: its number and its span. C lends a list of these, so the layout is C's.
+#[repr(C)]
+pub struct Hit {
+    pub record: usize,
+    pub start: usize,
+    pub end: usize,
+}
+
 // What the two calls of a run answered, reading and then layout.
 pub struct Run {
     pub read: Answer,
