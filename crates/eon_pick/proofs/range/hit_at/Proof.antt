@@ -1,0 +1,25 @@
+use denote.Ref.{now}
+use Rattle.eon_table.specs.Words.{recordOf}
+use Rattle.eon_pick.proofs.Listing.{hit-is}
+use borrow.Author.Needs.{needs}
+use Rattle.eon_pick.proofs.range.hit_at.Statement.{statement}
+use Rattle.eon_pick.proofs.range.hit_at.Tie as tie
+use Rattle.eon_pick.proofs.range.hit_at.Reads as reads
+use Rattle.eon_pick.proofs.range.hit_at.Lts as lts
+use Rattle.eon_table.proofs.record.end.Reads as end-reads
+use Rattle.eon_table.proofs.record.start.Reads as start-reads
+
+-- src/range.rt:73:9
+start-requires : tie.Need-start-requires
+start-requires c κs = search needs
+
+-- src/range.rt:74:9
+end-requires : tie.Need-end-requires
+end-requires c κs = search needs
+
+-- src/range.rt:70:1
+returns : tie.Need-returns
+returns c = hit-is _ _ _ (recordOf (now (c .before .before .before .args .table)) (c .before .before .before .args .i)) (c .before .start .ensures .0) (c .end .ensures .0)
+
+pub hit-at-spec : {M : Type 1} → statement M
+hit-at-spec = tie.close (tie.spec start-requires end-requires returns)
