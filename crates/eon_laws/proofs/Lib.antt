@@ -18,10 +18,9 @@ pub mod Spans
 pub mod LayoutLength
 pub mod UnquoteLength
 pub mod Checked
+pub mod Numbers
 pub mod Room
 pub mod Encode
 pub mod Shown
 pub mod Compare
 pub mod Kept
-pub mod Pick
-pub mod Covers

@@ -1,5 +1,6 @@
 -- Memory that is never too short: with so much room for its text, a call answers what the text gives, and 14 is no part of that.
 use mathlib.Core.Path.{_≡_, refl, ap}
+use mathlib.Core.Logic.{inl, inr}
 use mathlib.Core.Bool.{Bool, true, false, cond}
 use mathlib.Core.List.{List, []}
 use Prim.Native.Nat.{ℕ, suc, _*_, _≤_}
@@ -17,66 +18,48 @@ use Rattle.eon_spec.specs.Records.{treeRecords, words}
 use Rattle.eon_spec.specs.Layout.{defaults, defaultOptions, format}
 use Rattle.eon_spec.specs.Unquote.{Unescaped, value, fault, unquote}
 use Rattle.eon_spec.specs.Calls.{Outcome, done, refusedWith, then, after, nowhere, checked, parsedOutcome, readText, written, fill, fillBoth, readCall, isFinished, readFinished, goodSettings, checkedSettings, formatCall, reformatCall, Part, partOf, isPart, opening, unescapedOutcome, handedBack, unquoteCall}
-use Rattle.eon_laws.proofs.Facts.{either}
-use Rattle.eon_laws.proofs.Parse.{Numbered, parse-numbered}
+use Rattle.eon_laws.proofs.Numbers.{OfText, OfTable, checked-cases, read-cases, finished-cases}
 use Rattle.eon_laws.proofs.Records.{words-length}
 use Rattle.eon_laws.proofs.Spans.{few-records}
 use Rattle.eon_laws.proofs.LayoutLength.{layout-length}
 use Rattle.eon_laws.proofs.UnquoteLength.{Unquoted, unquote-length}
 
 -- a refusal for another reason than room
-abbrev Other : Refusal → Type 0
+abbrev pub Other : Refusal → Type 0
 Other r = r .number ≡ 14 → ⊥
 
 -- answered, or refused for another reason than room
-abbrev Enough : {A : Type 0} → Outcome A → Type 0
+abbrev pub Enough : {A : Type 0} → Outcome A → Type 0
 Enough (done a) = Unit {0}
 Enough (refusedWith r) = Other r
 
--- ---- what a text gives, by cases: a refusal, never by 14, or what is known of an accepted text
+pub text-other : (r : Refusal) → OfText r → Other r
+text-other r o e = omega (arith, o .1)
 
-checked-cases : {A : Type 0} (s : List ℕ) (f : List ℕ → Outcome A) (P : Outcome A → Type 0) → ((r : Refusal) → Other r → P (refusedWith r)) → (isUtf8 s ≡ true → P (f s)) → P (checked s f)
-unfolding checked
-checked-cases s f P refuses accepts =
-    either (ltb 65535 (length s)) P _ _ (λ e. refuses _ (λ e. omega arith)) (λ e. either (isUtf8 s) P _ _ accepts (λ e. refuses _ (λ e. omega arith)))
-
-module _ (s : List ℕ) (P : Outcome TokenTree → Type 0) (refuses : (r : Refusal) → Other r → P (refusedWith r)) (accepts : isUtf8 s ≡ true → (t : TokenTree) → parse s ≡ parsed t → P (done t)) where
-  read-cases : P (readText s)
-  unfolding readText parse
-  read-cases = checked-cases s (λ t. parsedOutcome (parse t)) P refuses λ formed. go formed (parse s) refl (parse-numbered (length s) (tokens s))
-    where
-      go : isUtf8 s ≡ true → (p : Parsed) → parse s ≡ p → Numbered p → P (parsedOutcome p)
-      go formed (parsed t) e h = accepts formed t e
-      go formed (refusedBy r) e h = refuses r λ f. omega (arith, h .1)
-
-  finished-cases : (table : List ℕ) → P (readFinished s table)
-  unfolding readFinished
-  finished-cases table = go (readText s) read-cases
-    where
-      go : (x : Outcome TokenTree) → P x → P (then x λ t. elim (isFinished table t) [ true ↦ done t | false ↦ refusedWith (nowhere 15) ])
-      go (done t) h = either (isFinished table t) P _ _ (λ e. h) (λ e. refuses (nowhere 15) λ e. omega arith)
-      go (refusedWith r) h = h
+pub table-other : (r : Refusal) → OfTable r → Other r
+table-other r (inl o) = text-other r o
+table-other r (inr z) = λ e. let n : r .number ≡ 15 = ap (λ (q : Refusal). q .number) z in omega arith
 
 -- ---- what fits is written
 
-pub fits-memory : {A : Type 0} (a : A) (new old : List ℕ) → length new ≤ length old → fill old (done (a, new)) ≡ after (done a) (written new old)
+pub fits-memory : {A E : Type 0} (a : A) (new old : List E) → length new ≤ length old → fill old (done (a, new)) ≡ after (done a) (written new old)
 unfolding fill
 fits-memory a new old h = rw (le-leb (length new) (length old) h, fill)
 
 -- what w writes for b
-abbrev Fits : {A B : Type 0} → List ℕ → (B → A × List ℕ) → B → Type 0
+abbrev pub Fits : {A B E : Type 0} → List E → (B → A × List E) → B → Type 0
 Fits old w b = length ((w b) .1) ≤ length old
 
 -- what is answered if what w writes for x fits
-abbrev Answers : {A B : Type 0} → List ℕ → (B → A × List ℕ) → Outcome B → Type 0
+abbrev pub Answers : {A B E : Type 0} → List E → (B → A × List E) → Outcome B → Type 0
 Answers old w x = (fill old (then x λ b. done (w b))) .answer ≡ then x λ b. done ((w b) .0)
 
-answers : {A B : Type 0} (old : List ℕ) (w : B → A × List ℕ) (b : B) → Fits old w b → Answers old w (done b)
+pub answers : {A B E : Type 0} (old : List E) (w : B → A × List E) (b : B) → Fits old w b → Answers old w (done b)
 answers old w b h = ap (λ x. x .answer) (fits-memory ((w b) .0) ((w b) .1) old h)
 
-answers-refused : {A B : Type 0} (old : List ℕ) (w : B → A × List ℕ) (r : Refusal) → Other r → Answers old w (refusedWith r)
+pub answers-refused : {A B E : Type 0} (old : List E) (w : B → A × List E) (r : Refusal) → Answers old w (refusedWith r)
 unfolding fill
-answers-refused old w r o = refl
+answers-refused old w r = refl
 
 good-defaults : goodSettings defaultOptions ≡ true
 unfolding isUtf8 wellFormedLen wellFormedFrom charLen
@@ -90,15 +73,15 @@ default-settings x = rw (good-defaults, checkedSettings)
 -- ---- the laws: the answer is what the text gives, and not 14
 
 -- an answer that is what x gives
-answers-not-14 : {A B : Type 0} (a : Outcome A) (x : Outcome B) (f : B → A) → a ≡ (then x λ b. done (f b)) → Enough x → a ≡ refusedWith (nowhere 14) → ⊥
+pub answers-not-14 : {A B : Type 0} (a : Outcome A) (x : Outcome B) (f : B → A) → a ≡ (then x λ b. done (f b)) → Enough x → a ≡ refusedWith (nowhere 14) → ⊥
 answers-not-14 a (done b) f e h k = let z : _≡_ {A = ℕ} 0 1 = cc in omega arith
 answers-not-14 a (refusedWith r) f e h k = h (let z : r ≡ nowhere 14 = cc in ap (λ q. q .number) z)
 
 text-enough : (s : List ℕ) → Enough (readText s)
-text-enough s = read-cases s Enough (λ r o. o) λ formed t e. tt
+text-enough s = read-cases s Enough (λ formed t e. tt) text-other
 
-finished-enough : (s table : List ℕ) → Enough (readFinished s table)
-finished-enough s table = finished-cases s Enough (λ r o. o) (λ formed t e. tt) table
+pub finished-enough : (s table : List ℕ) → Enough (readFinished s table)
+finished-enough s table = finished-cases s Enough (λ formed t e. tt) table table-other
 
 module _ (s table : List ℕ) where
   -- the records of the text's tree
@@ -111,7 +94,7 @@ module _ (s table : List ℕ) where
     unfolding readCall
     read-room =
         let w : TokenTree → ℕ × List ℕ = λ t. (length (treeRecords t), words (treeRecords t)) in
-        read-cases s (Answers table w) (answers-refused table w) λ formed t e. answers table w t (words-fit h formed t e)
+        read-cases s (Answers table w) (λ formed t e. answers table w t (words-fit h formed t e)) λ r o. answers-refused table w r
 
     pub read-not-14 : (readCall s table) .answer ≡ refusedWith (nowhere 14) → ⊥
     read-not-14 = answers-not-14 ((readCall s table) .answer) (readText s) (λ t. length (treeRecords t)) read-room (text-enough s)
@@ -126,7 +109,7 @@ module _ (s table : List ℕ) where
     unfolding formatCall
     format-room =
         let w : TokenTree → ℕ × List ℕ = λ t. (length (format defaults t), format defaults t) in
-        rw default-settings (finished-cases s (Answers out w) (answers-refused out w) (λ formed t e. answers out w t (bytes-fit formed t e)) table)
+        rw default-settings (finished-cases s (Answers out w) (λ formed t e. answers out w t (bytes-fit formed t e)) table λ r o. answers-refused out w r)
 
     pub format-not-14 : (formatCall s table defaultOptions out) .answer ≡ refusedWith (nowhere 14) → ⊥
     format-not-14 = answers-not-14 ((formatCall s table defaultOptions out) .answer) (readFinished s table) (λ t. length (format defaults t)) format-room (finished-enough s table)
@@ -136,8 +119,9 @@ module _ (s table : List ℕ) where
     unfolding reformatCall fillBoth
     reformat-room h =
         rw default-settings
-        (read-cases s (λ x. (fillBoth table out (then x λ t. done (words (treeRecords t), format defaults t))) .answer ≡ then x λ t. done (length (format defaults t))) (λ r o. refl) λ formed t e.
-        rw (le-leb (length (words (treeRecords t))) (length table) (words-fit h formed t e), le-leb (length (format defaults t)) (length out) (bytes-fit formed t e), fillBoth))
+        (read-cases s (λ x. (fillBoth table out (then x λ t. done (words (treeRecords t), format defaults t))) .answer ≡ then x λ t. done (length (format defaults t)))
+        (λ formed t e. rw (le-leb (length (words (treeRecords t))) (length table) (words-fit h formed t e), le-leb (length (format defaults t)) (length out) (bytes-fit formed t e), fillBoth))
+        λ r o. refl)
 
     pub reformat-not-14 : 5 * suc (length s) ≤ length table → (reformatCall s table defaultOptions out) .answer ≡ refusedWith (nowhere 14) → ⊥
     reformat-not-14 h = answers-not-14 ((reformatCall s table defaultOptions out) .answer) (readText s) (λ t. length (format defaults t)) (reformat-room h) (text-enough s)
@@ -153,7 +137,7 @@ module _ (s scratch : List ℕ) (h : length s ≤ length scratch) where
 
   -- what the string gives, by cases
   unquote-cases : (P : Outcome (List ℕ) → Type 0) → ((r : Refusal) → Other r → P (refusedWith r)) → ((b : List ℕ) → length b ≤ length s → P (done b)) → P (checked s λ t. unescapedOutcome (unquote t))
-  unquote-cases P refuses accepts = checked-cases s (λ t. unescapedOutcome (unquote t)) P refuses λ formed. go (unquote s) (unquote-length s formed)
+  unquote-cases P refuses accepts = checked-cases s (λ t. unescapedOutcome (unquote t)) P (λ r b. refuses r λ e. omega (arith, b .1)) λ formed. go (unquote s) (unquote-length s formed)
     where
       go : (u : Unescaped) → Unquoted (length s) u → P (unescapedOutcome u)
       go (value b) k = accepts b k
@@ -162,7 +146,7 @@ module _ (s scratch : List ℕ) (h : length s ≤ length scratch) where
   -- a scratch as long as the quoted string is never too short
   pub unquote-room : (unquoteCall s scratch) .answer ≡ then (checked s λ t. unescapedOutcome (unquote t)) λ b. done ((handedBack s b) .0)
   unfolding unquoteCall
-  unquote-room = unquote-cases (Answers scratch (handedBack s)) (answers-refused scratch (handedBack s)) λ b k. answers scratch (handedBack s) b (part-fits b k)
+  unquote-room = unquote-cases (Answers scratch (handedBack s)) (λ r o. answers-refused scratch (handedBack s) r) λ b k. answers scratch (handedBack s) b (part-fits b k)
 
   pub unquote-not-14 : (unquoteCall s scratch) .answer ≡ refusedWith (nowhere 14) → ⊥
   unquote-not-14 = answers-not-14 ((unquoteCall s scratch) .answer) (checked s λ t. unescapedOutcome (unquote t)) (λ b. (handedBack s b) .0) unquote-room (unquote-cases Enough (λ r o. o) λ b k. tt)

@@ -11,8 +11,8 @@ use lib.Dec.{ltb, eqb}
 use borrow.Author.Tests.{lt-ltb, le-ltb, eq-eqb, ne-eqb}
 use Rattle.eon_spec.specs.Records.{Record, treeRecords}
 use Rattle.eon_spec.specs.Calls.{Outcome, done, refusedWith, then, nowhere, orRefused, readFinished}
-use Rattle.eon_spec.specs.Pick.{distance, prefers, wins, nearestIn, nearer, nearest, highest, pickedBy, picked, pickCall}
-use Rattle.eon_laws.proofs.Pick.{nearest-next}
+use Rattle.eon_spec.specs.Pick.{distance, prefers, wins, nearestIn, nearer, nearest, highest, pickedBy, picked, recordAtCall}
+use Rattle.eon_pick.proofs.Nearest.{nearest-next}
 use Rattle.eon_table.specs.Words.{recordOf, recordsOf}
 use Rattle.eon_table.specs.Finished.{SomeFinished}
 use Rattle.eon_table.proofs.Table.{records-more}
@@ -97,10 +97,10 @@ module _ (o : ℕ) (rs : List Record) where
   unfolding picked
   byte-picks b x e f = f ∙ ap (λ (y : Option ℕ). orRefused 27 (pickedBy y rs)) e
 
-pub at-offset : (s tb : List ℕ) (n o : ℕ) (x : Outcome ℕ) → SomeFinished s tb n → x ≡ orRefused 27 (picked o (recordsOf tb 0 n)) → x ≡ pickCall s tb o
-unfolding pickCall
+pub at-offset : (s tb : List ℕ) (n o : ℕ) (x : Outcome ℕ) → SomeFinished s tb n → x ≡ orRefused 27 (picked o (recordsOf tb 0 n)) → x ≡ recordAtCall s tb o
+unfolding recordAtCall
 at-offset s tb n o x f e = e ∙ ap (λ (rs : List Record). orRefused 27 (picked o rs)) (f .1 .records) ∙ answers (f .1) (λ t. orRefused 27 (picked o (treeRecords t)))
 
-pub pick-call : (s tb : List ℕ) (o : ℕ) → then (readFinished s tb) (λ t. orRefused 27 (picked o (treeRecords t))) ≡ pickCall s tb o
-unfolding pickCall
-pick-call s tb o = refl
+pub record-at-call : (s tb : List ℕ) (o : ℕ) → then (readFinished s tb) (λ t. orRefused 27 (picked o (treeRecords t))) ≡ recordAtCall s tb o
+unfolding recordAtCall
+record-at-call s tb o = refl

@@ -1,15 +1,44 @@
--- The list of hits is the filter of the table: each hit is a record that shares a byte with the range, each such record is a hit, and their numbers rise.
+-- The list of hits is the filter of the table: each hit is a record that shares a byte with the range, each such record is a hit, and their
+-- numbers rise.
 use mathlib.Core.Path.{_≡_, refl, ap, subst, _∙_}
 use mathlib.Core.Logic.{_⊎_, inl, inr}
 use mathlib.Core.Bool.{Bool, true, false}
 use mathlib.Core.List.{List, [], _∷_}
 use mathlib.Core.Option.{Option, none, some}
-use Prim.Native.Nat.{ℕ, zero, suc, _+_, _≤_}
+use Prim.Native.Nat.{ℕ, zero, suc, _+_, _≤_, _<_, min, max}
 use native.Mathlib.Omega.{arith}
+use lib.ListN.{length}
+use lib.Dec.{ltb, lt→ltb}
 use Rattle.eon_spec.specs.declared.Hit.{Hit}
 use Rattle.eon_spec.specs.Records.{Record}
-use Rattle.eon_spec.specs.Pick.{sharesByte, hitOf, hitThen, hits}
-use Rattle.eon_laws.proofs.Pick.{nth}
+use Rattle.eon_spec.specs.Pick.{holdsByte, sharesByte, hitOf, hitThen, hits}
+use Rattle.eon_laws.proofs.Facts.{true-of, lt-of, ltb-false}
+use Rattle.eon_pick.proofs.Nearest.{held, holds-of, nth}
+
+-- a record "that shares a byte with the range" holds one of its bytes, and one that holds a byte of the range shares it
+pub shares-byte : (from to : ℕ) (r : Record) → sharesByte from to r ≡ true → (b : ℕ) × (from ≤ b) × (b < to) × (holdsByte b r ≡ true)
+shares-byte from to r e =
+    let l = lt-of (max (r .start) from) (min (r .end) to) e in
+    (max (r .start) from, omega arith, omega arith, holds-of (max (r .start) from) r (omega arith) (omega arith))
+
+pub byte-shares : (from to b : ℕ) (r : Record) → from ≤ b → b < to → holdsByte b r ≡ true → sharesByte from to r ≡ true
+byte-shares from to b r g h e =
+    let k = held b r e in
+    true-of (ltb (max (r .start) from) (min (r .end) to)) (lt→ltb (max (r .start) from) (min (r .end) to) (omega (arith, k .0, k .1)))
+
+-- an empty or reversed range has no hits
+pub no-hits : (from to n : ℕ) (rs : List Record) → to ≤ from → hits from to n rs ≡ []
+no-hits from to n [] h = refl
+no-hits from to n (r ∷ rs) h = ap (λ (b : Bool). hitThen b (hitOf n r) (hits from to (suc n) rs)) (ltb-false (max (r .start) from) (min (r .end) to) (omega arith)) ∙ no-hits from to (suc n) rs h
+
+-- no more hits than records
+pub few-hits : (from to n : ℕ) (rs : List Record) → length (hits from to n rs) ≤ length rs
+few-hits from to n [] = omega arith
+few-hits from to n (r ∷ rs) = go (sharesByte from to r) (few-hits from to (suc n) rs)
+  where
+    go : (b : Bool) → length (hits from to (suc n) rs) ≤ length rs → length (hitThen b (hitOf n r) (hits from to (suc n) rs)) ≤ suc (length rs)
+    go true h = omega arith
+    go false h = omega arith
 
 abbrev pub OneOf : Hit → List Hit → Type 0
 OneOf h [] = ⊥

@@ -14,7 +14,7 @@ use Rattle.eon_spec.specs.declared.Refusal.{Refusal}
 use Rattle.eon_spec.specs.Tree.{TokenTree}
 use Rattle.eon_spec.specs.Records.{Record, treeRecords}
 use Rattle.eon_spec.specs.Calls.{Outcome, done, refusedWith, then, nowhere, after, written, fill, readFinished}
-use Rattle.eon_spec.specs.Pick.{sharesByte, hitOf, hitThen, hits, rangeCall}
+use Rattle.eon_spec.specs.Pick.{sharesByte, hitOf, hitThen, hits, recordsInCall}
 use Rattle.eon_laws.proofs.Facts.{le-of}
 use Rattle.eon_table.specs.Words.{recordOf, recordsOf}
 use Rattle.eon_table.specs.Finished.{Finished, SomeFinished}
@@ -213,6 +213,6 @@ module _ (s tb : List ℕ) (from to : ℕ) (l : List Hit) where
       go false e = rw (e, fill) (stays (nowhere 14) x k c y m (ex ∙ ap (λ (b : Bool). cond b (done (length (treeRecords t))) (refusedWith (nowhere 14))) e) ek (em .1) ey)
 
   pub lists : (x : Outcome ℕ) (k c : ℕ) (y : Outcome ℕ) (m : List Hit) → x ≡ planCall s tb from to (length l) → k ≡ walkedOf x
-      → (c ≡ length (allHits from to k tb)) × (m ≡ over (allHits from to k tb) l) → y ≡ answeredBy x c → after y m ≡ rangeCall s tb from to l
-  unfolding planCall rangeCall
+      → (c ≡ length (allHits from to k tb)) × (m ≡ over (allHits from to k tb) l) → y ≡ answeredBy x c → after y m ≡ recordsInCall s tb from to l
+  unfolding planCall recordsInCall
   lists x k c y m = lists-by (readFinished s tb) refl x k c y m

@@ -1,12 +1,13 @@
 // The record at a byte offset: first the nearest byte that a record covers, then the highest-numbered record that holds it.
 ghost use mathlib.Core.Path.{_≡_};
 ghost use Rattle.eon_spec.specs.Calls.{outcomeOf, orRefused};
-ghost use Rattle.eon_spec.specs.Pick.{holdsByte, distance, nearestIn, prefers, wins, nearer, nearest, highest, picked, pickCall};
+ghost use Rattle.eon_spec.specs.Pick.{holdsByte, distance, nearestIn, prefers, wins, nearer, nearest, highest, picked, recordAtCall};
 ghost use Rattle.eon_table.specs.Words.{recordOf, recordsOf};
 ghost use Rattle.eon_pick.specs.Near.{nearOf};
 use eon_parse::finished;
 use eon_spec::Answer;
 use eon_spec::Refusal;
+use eon_spec::error::NO_BYTE;
 use eon_table::record::end;
 use eon_table::record::start;
 
@@ -116,7 +117,7 @@ fn last_holding(table: &[u32], n: usize, b: usize) -> Answer
             return Answer::Done(i);
         }
     }
-    Answer::Refused(Refusal::new(27, 0))
+    Answer::Refused(Refusal::new(NO_BYTE, 0))
 }
 
 // The byte first, then the record.
@@ -124,14 +125,14 @@ fn pick(table: &[u32], n: usize, o: usize) -> Answer
     ensures { λ r. ⌜ outcomeOf r ≡ orRefused 27 (picked o (recordsOf (now (table .entry)) 0 n)) ⌝ }
 {
     match nearest_byte(table, n, o) {
-        Near::Nowhere => Answer::Refused(Refusal::new(27, 0)),
+        Near::Nowhere => Answer::Refused(Refusal::new(NO_BYTE, 0)),
         Near::Byte(b) => last_holding(table, n, b),
     }
 }
 
 // The number of the record at a byte offset. 27, where the records cover no byte, comes directly after 15.
 pub fn record_at(text: &[u8], table: &[u32], offset: usize) -> Answer
-    ensures { λ r. ⌜ outcomeOf r ≡ pickCall (now (text .entry)) (now (table .entry)) offset ⌝ }
+    ensures { λ r. ⌜ outcomeOf r ≡ recordAtCall (now (text .entry)) (now (table .entry)) offset ⌝ }
 {
     match finished(text, table) {
         Answer::Refused(r) => Answer::Refused(r),

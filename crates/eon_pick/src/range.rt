@@ -1,15 +1,17 @@
-// The records in a byte range, in a lent list of hits. `fill_hits` and `records_in`, which take the list, decide nothing: their proofs are walks by hand over the functions that count and find.
+// The records in a byte range, in a lent list of hits. `fill_hits` and `records_in`, which take the list, decide nothing: their proofs are
+// walks by hand over the functions that count and find.
 ghost use mathlib.Core.Path.{_≡_};
 ghost use Prim.Native.Nat.{_≤_, min, max};
 ghost use lib.ListN.{length};
 ghost use Rattle.eon_spec.specs.Calls.{outcomeOf, after};
-ghost use Rattle.eon_spec.specs.Pick.{sharesByte, hitOf, rangeCall};
+ghost use Rattle.eon_spec.specs.Pick.{sharesByte, hitOf, recordsInCall};
 ghost use Rattle.eon_table.specs.Words.{recordOf};
 ghost use Rattle.eon_pick.specs.Listed.{Next, allHits, over, planCall, walkedOf, answeredBy};
 use eon_parse::finished;
 use eon_spec::Answer;
 use eon_spec::Hit;
 use eon_spec::Refusal;
+use eon_spec::error::NO_SPACE;
 use eon_table::record::end;
 use eon_table::record::start;
 
@@ -103,7 +105,7 @@ fn plan(text: &[u8], table: &[u32], from: usize, to: usize, room: usize) -> Answ
         Answer::Refused(r) => Answer::Refused(r),
         Answer::Done(n) => {
             if room < count_hits(table, n, from, to) {
-                return Answer::Refused(Refusal::new(14, 0));
+                return Answer::Refused(Refusal::new(NO_SPACE, 0));
             }
             Answer::Done(n)
         }
@@ -132,7 +134,7 @@ fn answered(plan: Answer, count: usize) -> Answer
 
 // Lists every record that shares a byte with the range, its end not counted, and answers how many. 14 leaves the list as it is.
 pub fn records_in(text: &[u8], table: &[u32], from: usize, to: usize, hits: &mut [Hit]) -> Answer
-    ensures { λ r. ⌜ after (outcomeOf r) (now (hits .exit)) ≡ rangeCall (now (text .entry)) (now (table .entry)) from to (now (hits .entry)) ⌝ }
+    ensures { λ r. ⌜ after (outcomeOf r) (now (hits .exit)) ≡ recordsInCall (now (text .entry)) (now (table .entry)) from to (now (hits .entry)) ⌝ }
 {
     let plan = plan(text, table, from, to, hits.len());
     let n = walked(plan);

@@ -59,8 +59,8 @@ unfoldable pub picked : ℕ → List Record → Option ℕ
 picked o rs = pickedBy (nearest o rs) rs
 
 -- 27, directly after 15: "a table whose records cover no byte"
-unfoldable pub pickCall : List ℕ → List ℕ → ℕ → Outcome ℕ
-pickCall s table o = then (readFinished s table) λ t. orRefused 27 (picked o (treeRecords t))
+unfoldable pub recordAtCall : List ℕ → List ℕ → ℕ → Outcome ℕ
+recordAtCall s table o = then (readFinished s table) λ t. orRefused 27 (picked o (treeRecords t))
 
 -- ---- the range call
 
@@ -83,6 +83,6 @@ hits from to n [] = []
 hits from to n (r ∷ rs) = hitThen (sharesByte from to r) (hitOf n r) (hits from to (suc n) rs)
 
 -- how many, and the list; "entries past the hits stay. Too short a list is 14 and stays untouched"
-unfoldable pub rangeCall : List ℕ → List ℕ → ℕ → ℕ → List Hit → AfterIn Hit ℕ
-rangeCall s table from to list =
+unfoldable pub recordsInCall : List ℕ → List ℕ → ℕ → ℕ → List Hit → AfterIn Hit ℕ
+recordsInCall s table from to list =
     fill list (then (readFinished s table) λ t. let hs = hits from to 0 (treeRecords t) in done (length hs, hs))

@@ -50,3 +50,5 @@ pub const FOREIGN_CHARACTER: u32 = 24;
 pub const NOT_CLOSED: u32 = 25;
 
 pub const NO_SCALAR_VALUE: u32 = 26;
+
+pub const NO_BYTE: u32 = 27;

@@ -19,7 +19,7 @@ module _ (s : List ℕ) where
     pub inside : r .textEnd ≤ r .end
     pub within : r .end ≤ length s
 
-  abbrev AllSpanned : List Record → Type 0
+  abbrev pub AllSpanned : List Record → Type 0
   AllSpanned [] = Unit {0}
   AllSpanned (r ∷ rs) = Spanned r × AllSpanned rs
 
@@ -41,7 +41,7 @@ module _ (s : List ℕ) where
   mutual
     unfolding treeRecords valueRecords treesRecords pairsRecords
 
-    tree-spanned : (t : TokenTree) → TreeFits s t → AllSpanned (treeRecords t)
+    pub tree-spanned : (t : TokenTree) → TreeFits s t → AllSpanned (treeRecords t)
     tree-spanned (tree sp p v x) h =
         joined (comments 7 p ++ valueRecords sp v) (suffix x) (joined (comments 7 p) (valueRecords sp v) (comments-spanned 7 p (h .1)) (value-spanned v sp (h .0) (h .2))) (suffix-spanned x (h .3))
 

@@ -7,29 +7,23 @@ use Rattle.eon_c.proofs.count_words.Lts as lts
 use Rattle.eon_c.proofs.done_words.Reads as done-words-reads
 use Rattle.eon_c.proofs.refused_words.Reads as refused-words-reads
 
--- src/lib.rt:33:22
 enum-known-a : tie.Need-enum-known-a
 enum-known-a c = search needs
 
--- src/lib.rt:33:28
 done-words-requires : tie.Need-done-words-requires
 done-words-requires c κs = search needs
 
--- src/lib.rt:34:25
 enum-known-a-2 : tie.Need-enum-known-a-2
 enum-known-a-2 c = search needs
 
--- src/lib.rt:34:31
 refused-words-requires : tie.Need-refused-words-requires
 refused-words-requires c κs = search needs
 
--- src/lib.rt:29:1
 returns : tie.Need-returns
 returns c =
     let args = c .before .before .before .before .args in
     counted _ (args .a) _ (c .before .before .a .given .1) (c .done-words .ensures)
 
--- src/lib.rt:29:1
 returns-2 : tie.Need-returns-2
 returns-2 c =
     let args = c .before .before .before .before .args in

@@ -8,15 +8,12 @@ use Rattle.eon_c.proofs.eon_compare.Lts as lts
 use Rattle.eon_c.proofs.truth_words.Reads as truth-words-reads
 use Rattle.eon_syntax.proofs.compare.Reads as compare-reads
 
--- src/lib.rt:120:27
 compare-requires : tie.Need-compare-requires
 compare-requires c κs = search needs
 
--- src/lib.rt:120:15
 truth-words-requires : tie.Need-truth-words-requires
 truth-words-requires c κs = search needs
 
--- src/lib.rt:110:1
 returns : tie.Need-returns
 returns c = c .truth-words .ensures ∙ ap truthWords (c .before .compare .ensures)
 

@@ -12,23 +12,18 @@ use Rattle.eon_c.proofs.count_words.Reads as count-words-reads
 use Rattle.eon_c.proofs.options_of.Reads as options-of-reads
 use Rattle.eon_syntax.proofs.format.Reads as format-reads
 
--- src/lib.rt:104:9
 options-of-requires : tie.Need-options-of-requires
 options-of-requires c κs = search needs
 
--- src/lib.rt:105:27
 format-requires : tie.Need-format-requires
 format-requires c κs = search needs
 
--- src/lib.rt:105:15
 count-words-requires : tie.Need-count-words-requires
 count-words-requires c κs = search needs
 
--- src/lib.rt:89:1
 same-length : tie.Need-same-length
 same-length c = search needs
 
--- src/lib.rt:89:1
 returns : tie.Need-returns
 returns c =
     let args = c .before .before .before .before .before .before .before .before .before .before .before .before .before .args in

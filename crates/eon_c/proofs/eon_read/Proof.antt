@@ -9,19 +9,15 @@ use Rattle.eon_c.proofs.eon_read.Lts as lts
 use Rattle.eon_c.proofs.count_words.Reads as count-words-reads
 use Rattle.eon_syntax.proofs.read.Reads as read-reads
 
--- src/lib.rt:86:27
 read-requires : tie.Need-read-requires
 read-requires c κs = search needs
 
--- src/lib.rt:86:15
 count-words-requires : tie.Need-count-words-requires
 count-words-requires c κs = search needs
 
--- src/lib.rt:81:1
 same-length : tie.Need-same-length
 same-length c = search needs
 
--- src/lib.rt:81:1
 returns : tie.Need-returns
 returns c =
     let read = c .before .before .before .read in

@@ -12,27 +12,21 @@ use Rattle.eon_c.proofs.count_words.Reads as count-words-reads
 use Rattle.eon_c.proofs.options_of.Reads as options-of-reads
 use Rattle.eon_syntax.proofs.reformat.Reads as reformat-reads
 
--- src/lib.rt:138:9
 options-of-requires : tie.Need-options-of-requires
 options-of-requires c κs = search needs
 
--- src/lib.rt:139:27
 reformat-requires : tie.Need-reformat-requires
 reformat-requires c κs = search needs
 
--- src/lib.rt:139:15
 count-words-requires : tie.Need-count-words-requires
 count-words-requires c κs = search needs
 
--- src/lib.rt:122:1
 same-length : tie.Need-same-length
 same-length c = search needs
 
--- src/lib.rt:122:1
 same-length-2 : tie.Need-same-length-2
 same-length-2 c = search needs
 
--- src/lib.rt:122:1
 returns : tie.Need-returns
 returns c =
     let args = c .before .before .before .before .before .before .before .before .before .before .before .before .before .before .before .before .args in

@@ -9,19 +9,15 @@ use Rattle.eon_c.proofs.eon_unquote.Lts as lts
 use Rattle.eon_c.proofs.part_words.Reads as part-words-reads
 use Rattle.eon_syntax.proofs.unescape_and_unquote.Reads as unescape-and-unquote-reads
 
--- src/lib.rt:128:26
 unescape-and-unquote-requires : tie.Need-unescape-and-unquote-requires
 unescape-and-unquote-requires c κs = search needs
 
--- src/lib.rt:128:15
 part-words-requires : tie.Need-part-words-requires
 part-words-requires c κs = search needs
 
--- src/lib.rt:123:1
 same-length : tie.Need-same-length
 same-length c = search needs
 
--- src/lib.rt:123:1
 returns : tie.Need-returns
 returns c =
     let unescape-and-unquote = c .before .before .before .unescape-and-unquote in

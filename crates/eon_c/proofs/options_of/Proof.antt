@@ -6,23 +6,18 @@ use Rattle.eon_c.proofs.options_of.Reads as reads
 use Rattle.eon_c.proofs.options_of.Lts as lts
 use Rattle.eon_spec.proofs.Setting.new.Reads as new-reads
 
--- src/lib.rt:68:9
 new-requires : tie.Need-new-requires
 new-requires c κs = search needs
 
--- src/lib.rt:69:9
 new-requires-2 : tie.Need-new-requires-2
 new-requires-2 c κs = search needs
 
--- src/lib.rt:70:9
 new-requires-3 : tie.Need-new-requires-3
 new-requires-3 c κs = search needs
 
--- src/lib.rt:71:9
 new-requires-4 : tie.Need-new-requires-4
 new-requires-4 c κs = search needs
 
--- src/lib.rt:59:1
 returns : tie.Need-returns
 returns c =
     let args = c .before .before .before .before .before .before .before .before .args in

@@ -8,33 +8,26 @@ use Rattle.eon_c.proofs.done_words.Reads as done-words-reads
 use Rattle.eon_c.proofs.refused_words.Reads as refused-words-reads
 use Rattle.eon_c.proofs.slice_number.Reads as slice-number-reads
 
--- src/lib.rt:60:24
 enum-known-u : tie.Need-enum-known-u
 enum-known-u c = search needs
 
--- src/lib.rt:61:36
 slice-number-requires : tie.Need-slice-number-requires
 slice-number-requires c κs = search needs
 
--- src/lib.rt:61:13
 done-words-requires : tie.Need-done-words-requires
 done-words-requires c κs = search needs
 
--- src/lib.rt:63:27
 enum-known-u-2 : tie.Need-enum-known-u-2
 enum-known-u-2 c = search needs
 
--- src/lib.rt:63:33
 refused-words-requires : tie.Need-refused-words-requires
 refused-words-requires c κs = search needs
 
--- src/lib.rt:56:1
 returns : tie.Need-returns
 returns c =
     let args = c .before .before .before .before .before .args in
     parted _ (args .u) _ _ _ _ (c .before .before .before .u .given .1) (c .before .slice-number .ensures) (c .done-words .ensures)
 
--- src/lib.rt:56:1
 returns-2 : tie.Need-returns-2
 returns-2 c =
     let args = c .before .before .before .before .args in

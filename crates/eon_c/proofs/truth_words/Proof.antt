@@ -7,33 +7,26 @@ use Rattle.eon_c.proofs.truth_words.Lts as lts
 use Rattle.eon_c.proofs.done_words.Reads as done-words-reads
 use Rattle.eon_c.proofs.refused_words.Reads as refused-words-reads
 
--- src/lib.rt:42:25
 enum-known-c : tie.Need-enum-known-c
 enum-known-c c = search needs
 
--- src/lib.rt:42:42
 cast-done-words : tie.Need-cast-done-words
 cast-done-words c = search needs
 
--- src/lib.rt:42:31
 done-words-requires : tie.Need-done-words-requires
 done-words-requires c κs = search needs
 
--- src/lib.rt:43:27
 enum-known-c-2 : tie.Need-enum-known-c-2
 enum-known-c-2 c = search needs
 
--- src/lib.rt:43:33
 refused-words-requires : tie.Need-refused-words-requires
 refused-words-requires c κs = search needs
 
--- src/lib.rt:38:1
 returns : tie.Need-returns
 returns c =
     let args = c .before .before .before .before .args in
     told _ (args .c) _ (c .before .before .c .given .1) (c .done-words .ensures)
 
--- src/lib.rt:38:1
 returns-2 : tie.Need-returns-2
 returns-2 c =
     let args = c .before .before .before .before .args in

@@ -13,19 +13,15 @@ use Rattle.eon_pick.proofs.offset.holds.Lts as lts
 use Rattle.eon_table.proofs.record.end.Reads as end-reads
 use Rattle.eon_table.proofs.record.start.Reads as start-reads
 
--- src/offset.rt:102:8
 start-requires : tie.Need-start-requires
 start-requires c κs = search needs
 
--- src/offset.rt:103:20
 end-requires : tie.Need-end-requires
 end-requires c κs = search needs
 
--- src/offset.rt:103:9
 returns : tie.Need-returns
 returns c = rw (le-leb (word (now (c .before .before .before .before .args .table)) (c .before .before .before .before .args .i) 1) (c .before .before .before .before .args .b) (omega (arith, c .before .before .start .ensures .0, c .before .if1 .taken))) (ap (λ (x : ℕ). ltb (c .before .before .before .before .args .b) x) (c .end .ensures .0))
 
--- src/offset.rt:99:1
 returns-2 : tie.Need-returns-2
 returns-2 c = rw (lt-leb (word (now (c .before .before .before .args .table)) (c .before .before .before .args .i) 1) (c .before .before .before .args .b) (omega (arith, c .before .start .ensures .0, c .if1 .left)))
 

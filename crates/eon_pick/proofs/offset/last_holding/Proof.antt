@@ -18,39 +18,31 @@ Inv-loop table n b i₀ i = (i ≤ n) × NoneFrom table n b i
 abbrev μ-loop : tie.MeasureT-loop
 μ-loop table n b i₀ i = i
 
--- src/offset.rt:113:5
 loop-holds : tie.Need-loop-holds Inv-loop μ-loop
 loop-holds c = (omega arith, none-yet (now (c .before .args .table)) (c .before .args .n) (c .before .args .b))
 
--- src/offset.rt:114:9
 sub-i : tie.Need-sub-i Inv-loop μ-loop
 sub-i c = search needs
 
--- src/offset.rt:115:12
 holds-requires : tie.Need-holds-requires Inv-loop μ-loop
 holds-requires c κs = search needs
 
--- src/offset.rt:116:13
 returns : tie.Need-returns Inv-loop μ-loop
 returns c =
     let e : c .before .before .before .loop .i ≡ c .before .before .before .loop .i - 1 + 1 = omega (arith, c .before .before .loop-test .taken) in
     found (now (c .before .before .before .before .before .args .table)) (c .before .before .before .before .before .args .n) (c .before .before .before .before .before .args .b) (c .before .before .before .loop .i - 1) (omega (arith, c .before .before .loop-test .taken, c .before .before .before .loop .inv .0)) (subst (NoneFrom (now (c .before .before .before .before .before .args .table)) (c .before .before .before .before .before .args .n) (c .before .before .before .before .before .args .b)) e (c .before .before .before .loop .inv .1)) (sym (c .before .holds .ensures) ∙ c .if1 .taken)
 
--- src/offset.rt:113:5
 loop-less : tie.Need-loop-less Inv-loop μ-loop
 loop-less c = omega (arith, c .before .before .loop-test .taken)
 
--- src/offset.rt:113:5
 loop-again : tie.Need-loop-again Inv-loop μ-loop
 loop-again c =
     let e : c .before .before .before .loop .i ≡ c .before .before .before .loop .i - 1 + 1 = omega (arith, c .before .before .loop-test .taken) in
     (omega (arith, c .before .before .before .loop .inv .0), none-here (now (c .before .before .before .before .before .args .table)) (c .before .before .before .before .before .args .n) (c .before .before .before .before .before .args .b) (c .before .before .before .loop .i - 1) (omega (arith, c .before .before .loop-test .taken, c .before .before .before .loop .inv .0)) (subst (NoneFrom (now (c .before .before .before .before .before .args .table)) (c .before .before .before .before .before .args .n) (c .before .before .before .before .before .args .b)) e (c .before .before .before .loop .inv .1)) (sym (c .before .holds .ensures) ∙ c .if1 .left))
 
--- src/offset.rt:119:21
 new-requires : tie.Need-new-requires Inv-loop μ-loop
 new-requires c κs = search needs
 
--- src/offset.rt:109:1
 returns-2 : tie.Need-returns-2 Inv-loop μ-loop
 returns-2 c =
     let z : c .before .before .loop .i ≡ 0 = omega (arith, c .before .loop-test .left) in

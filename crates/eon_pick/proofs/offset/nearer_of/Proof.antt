@@ -10,39 +10,30 @@ use Rattle.eon_pick.proofs.offset.nearer_of.Reads as reads
 use Rattle.eon_pick.proofs.offset.nearer_of.Lts as lts
 use Rattle.eon_pick.proofs.offset.wins_over.Reads as wins-over-reads
 
--- src/offset.rt:73:20
 enum-known-x : tie.Need-enum-known-x
 enum-known-x c = search needs
 
--- src/offset.rt:74:9
 enum-told : tie.Need-enum-told
 enum-told c = search needs
 
--- src/offset.rt:74:9
 returns : tie.Need-returns
 returns c = search needs
 
--- src/offset.rt:76:20
 enum-known-y : tie.Need-enum-known-y
 enum-known-y c = search needs
 
--- src/offset.rt:77:9
 enum-told-2 : tie.Need-enum-told-2
 enum-told-2 c = search needs
 
--- src/offset.rt:77:9
 returns-2 : tie.Need-returns-2
 returns-2 c = ap₂ (λ (u w : Near). nearer (c .before .before .before .before .before .args .o) (nearOf u) (nearOf w)) (sym (c .before .before .before .x .given .1)) (sym (c .enum-told2 .given .1))
 
--- src/offset.rt:79:8
 wins-over-requires : tie.Need-wins-over-requires
 wins-over-requires c κs = search needs
 
--- src/offset.rt:80:9
 returns-3 : tie.Need-returns-3
 returns-3 c = takes-later _ _ _ (sym (c .before .wins-over .ensures) ∙ c .if1 .taken) ∙ ap₂ (λ (u w : Near). nearer (c .before .before .before .before .before .before .before .before .args .o) (nearOf u) (nearOf w)) (sym (c .before .before .before .before .before .before .x .given .1)) (sym (c .before .before .before .y .given .1))
 
--- src/offset.rt:70:1
 returns-4 : tie.Need-returns-4
 returns-4 c = keeps-first _ _ _ (sym (c .before .wins-over .ensures) ∙ c .if1 .left) ∙ ap₂ (λ (u w : Near). nearer (c .before .before .before .before .before .before .before .before .args .o) (nearOf u) (nearOf w)) (sym (c .before .before .before .before .before .before .x .given .1)) (sym (c .before .before .before .y .given .1))
 

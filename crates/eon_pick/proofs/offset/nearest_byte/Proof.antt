@@ -20,31 +20,24 @@ Inv-loop table n o best₀ i₀ best i = (i ≤ n) × (nearOf best ≡ nearest o
 abbrev μ-loop : tie.MeasureT-loop
 μ-loop table n o best₀ i₀ best i = n - i
 
--- src/offset.rt:91:5
 loop-holds : tie.Need-loop-holds Inv-loop μ-loop
 loop-holds c = (omega arith, none-seen (c .before .args .o) (now (c .before .args .table)))
 
--- src/offset.rt:92:35
 nearest-in-requires : tie.Need-nearest-in-requires Inv-loop μ-loop
 nearest-in-requires c κs = search needs
 
--- src/offset.rt:92:9
 nearer-of-requires : tie.Need-nearer-of-requires Inv-loop μ-loop
 nearer-of-requires c κs = search needs
 
--- src/offset.rt:93:9
 add-i : tie.Need-add-i Inv-loop μ-loop
 add-i c = omega arith
 
--- src/offset.rt:91:5
 loop-less : tie.Need-loop-less Inv-loop μ-loop
 loop-less c = omega arith
 
--- src/offset.rt:91:5
 loop-again : tie.Need-loop-again Inv-loop μ-loop
 loop-again c = (omega arith, one-more (c .before .before .before .before .before .args .o) (now (c .before .before .before .before .before .args .table)) (c .before .before .before .loop .i) _ _ _ (c .before .before .before .loop .inv .1) (c .before .nearest-in .ensures) (c .nearer-of .ensures))
 
--- src/offset.rt:86:1
 returns : tie.Need-returns Inv-loop μ-loop
 returns c = all-seen (c .before .before .before .args .o) (now (c .before .before .before .args .table)) (c .before .loop .i) (c .before .before .before .args .n) _ (c .before .loop .inv .0) (c .loop-test .left) (c .before .loop .inv .1)
 

@@ -9,31 +9,24 @@ use Rattle.eon_pick.proofs.offset.nearest_in.Lts as lts
 use Rattle.eon_table.proofs.record.end.Reads as end-reads
 use Rattle.eon_table.proofs.record.start.Reads as start-reads
 
--- src/offset.rt:55:9
 start-requires : tie.Need-start-requires
 start-requires c κs = search needs
 
--- src/offset.rt:56:9
 end-requires : tie.Need-end-requires
 end-requires c κs = search needs
 
--- src/offset.rt:58:9
 returns : tie.Need-returns
 returns c = in-none (c .before .before .before .before .args .o) (recordOf (now (c .before .before .before .before .args .table)) (c .before .before .before .before .args .i)) (c .before .before .start .result) (c .before .end .result) (c .before .before .start .ensures .0) (c .before .end .ensures .0) (c .if1 .taken)
 
--- src/offset.rt:61:9
 returns-2 : tie.Need-returns-2
 returns-2 c = in-some (c .before .before .before .before .before .args .o) (recordOf (now (c .before .before .before .before .before .args .table)) (c .before .before .before .before .before .args .i)) (c .before .before .before .start .result) (c .before .before .end .result) (c .before .before .before .start .ensures .0) (c .before .before .end .ensures .0) _ (c .before .if1 .left) (before-it (c .before .before .before .before .before .args .o) (c .before .before .before .start .result) (c .before .before .end .result) (c .before .if1 .left) (c .if2 .taken))
 
--- src/offset.rt:64:9
 returns-3 : tie.Need-returns-3
 returns-3 c = in-some (c .before .before .before .before .before .before .args .o) (recordOf (now (c .before .before .before .before .before .before .args .table)) (c .before .before .before .before .before .before .args .i)) (c .before .before .before .before .start .result) (c .before .before .before .end .result) (c .before .before .before .before .start .ensures .0) (c .before .before .before .end .ensures .0) _ (c .before .before .if1 .left) (in-it (c .before .before .before .before .before .before .args .o) (c .before .before .before .before .start .result) (c .before .before .before .end .result) (c .before .if2 .left) (c .if3 .taken))
 
--- src/offset.rt:66:16
 sub-t7 : tie.Need-sub-t7
 sub-t7 c = search needs
 
--- src/offset.rt:52:1
 returns-4 : tie.Need-returns-4
 returns-4 c = in-some (c .before .before .before .before .before .before .args .o) (recordOf (now (c .before .before .before .before .before .before .args .table)) (c .before .before .before .before .before .before .args .i)) (c .before .before .before .before .start .result) (c .before .before .before .end .result) (c .before .before .before .before .start .ensures .0) (c .before .before .before .end .ensures .0) _ (c .before .before .if1 .left) (behind-it (c .before .before .before .before .before .before .args .o) (c .before .before .before .before .start .result) (c .before .before .before .end .result) (c .before .before .if1 .left) (c .if3 .left))
 

@@ -13,31 +13,24 @@ use Rattle.eon_pick.proofs.offset.last_holding.Reads as last-holding-re
 use Rattle.eon_pick.proofs.offset.nearest_byte.Reads as nearest-byte-reads
 use Rattle.eon_spec.proofs.Refusal.new.Reads as new-reads
 
--- src/offset.rt:126:11
 nearest-byte-requires : tie.Need-nearest-byte-requires
 nearest-byte-requires c κs = search needs
 
--- src/offset.rt:127:42
 enum-told : tie.Need-enum-told
 enum-told c = search needs
 
--- src/offset.rt:127:42
 new-requires : tie.Need-new-requires
 new-requires c κs = search needs
 
--- src/offset.rt:128:20
 enum-known-b : tie.Need-enum-known-b
 enum-known-b c = search needs
 
--- src/offset.rt:128:26
 last-holding-requires : tie.Need-last-holding-requires
 last-holding-requires c κs = search needs
 
--- src/offset.rt:123:1
 returns : tie.Need-returns
 returns c = ap refusedWith (c .new .ensures) ∙ no-byte (c .before .before .before .before .before .args .o) (recordsOf (now (c .before .before .before .before .before .args .table)) 0 (c .before .before .before .before .before .args .n)) (sym (ap nearOf (c .before .enum-told .given .1)) ∙ c .before .before .before .nearest-byte .ensures)
 
--- src/offset.rt:123:1
 returns-2 : tie.Need-returns-2
 returns-2 c = byte-picks (c .before .before .before .before .before .before .args .o) (recordsOf (now (c .before .before .before .before .before .before .args .table)) 0 (c .before .before .before .before .before .before .args .n)) (c .before .before .b .given .0 .0) _ (sym (ap nearOf (c .before .before .b .given .1)) ∙ c .before .before .before .before .nearest-byte .ensures) (c .last-holding .ensures)
 

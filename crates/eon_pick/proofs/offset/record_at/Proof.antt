@@ -4,7 +4,7 @@ use Rattle.eon_spec.specs.Records.{treeRecords}
 use Rattle.eon_spec.specs.Calls.{outcomeOf, orRefused}
 use Rattle.eon_spec.specs.Pick.{picked}
 use Rattle.eon_table.proofs.Finished.{finished-done, refuses}
-use Rattle.eon_pick.proofs.Chosen.{at-offset, pick-call}
+use Rattle.eon_pick.proofs.Chosen.{at-offset, record-at-call}
 use borrow.Author.Needs.{needs}
 use Rattle.eon_pick.proofs.offset.record_at.Statement.{statement}
 use Rattle.eon_pick.proofs.offset.record_at.Tie as tie
@@ -13,27 +13,21 @@ use Rattle.eon_pick.proofs.offset.record_at.Lts as lts
 use Rattle.eon_parse.proofs.finished.Reads as finished-reads
 use Rattle.eon_pick.proofs.offset.pick.Reads as pick-reads
 
--- src/offset.rt:136:11
 finished-requires : tie.Need-finished-requires
 finished-requires c κs = search needs
 
--- src/offset.rt:137:25
 enum-known-r : tie.Need-enum-known-r
 enum-known-r c = search needs
 
--- src/offset.rt:138:22
 enum-known-n : tie.Need-enum-known-n
 enum-known-n c = search needs
 
--- src/offset.rt:138:28
 pick-requires : tie.Need-pick-requires
 pick-requires c κs = search needs
 
--- src/offset.rt:133:1
 returns : tie.Need-returns
-returns c = refuses (now (c .before .before .before .before .before .before .args .text)) (now (c .before .before .before .before .before .before .args .table)) (λ t. orRefused 27 (picked (c .before .before .before .before .before .before .args .offset) (treeRecords t))) (c .before .r .given .0 .0) (sym (ap outcomeOf (c .before .r .given .1)) ∙ c .before .before .before .finished .ensures) ∙ pick-call (now (c .before .before .before .before .before .before .args .text)) (now (c .before .before .before .before .before .before .args .table)) (c .before .before .before .before .before .before .args .offset)
+returns c = refuses (now (c .before .before .before .before .before .before .args .text)) (now (c .before .before .before .before .before .before .args .table)) (λ t. orRefused 27 (picked (c .before .before .before .before .before .before .args .offset) (treeRecords t))) (c .before .r .given .0 .0) (sym (ap outcomeOf (c .before .r .given .1)) ∙ c .before .before .before .finished .ensures) ∙ record-at-call (now (c .before .before .before .before .before .before .args .text)) (now (c .before .before .before .before .before .before .args .table)) (c .before .before .before .before .before .before .args .offset)
 
--- src/offset.rt:133:1
 returns-2 : tie.Need-returns-2
 returns-2 c = at-offset (now (c .before .before .before .before .before .before .before .args .text)) (now (c .before .before .before .before .before .before .before .args .table)) (c .before .before .n .given .0 .0) (c .before .before .before .before .before .before .before .args .offset) _ (finished-done (now (c .before .before .before .before .before .before .before .args .text)) (now (c .before .before .before .before .before .before .before .args .table)) (c .before .before .n .given .0 .0) (sym (ap outcomeOf (c .before .before .n .given .1)) ∙ c .before .before .before .before .finished .ensures)) (c .pick .ensures)
 

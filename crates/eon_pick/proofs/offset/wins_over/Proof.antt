@@ -7,27 +7,21 @@ use Rattle.eon_pick.proofs.offset.wins_over.Lts as lts
 use Rattle.eon_pick.proofs.offset.apart.Reads as apart-reads
 use Rattle.eon_pick.proofs.offset.preferred.Reads as preferred-reads
 
--- src/offset.rt:40:9
 apart-requires : tie.Need-apart-requires
 apart-requires c κs = search needs
 
--- src/offset.rt:41:9
 apart-requires-2 : tie.Need-apart-requires-2
 apart-requires-2 c κs = search needs
 
--- src/offset.rt:43:9
 returns : tie.Need-returns
 returns c = wins-near _ _ _ _ _ (c .before .before .apart .ensures) (c .before .apart2 .ensures) (c .if1 .taken)
 
--- src/offset.rt:46:9
 preferred-requires : tie.Need-preferred-requires
 preferred-requires c κs = search needs
 
--- src/offset.rt:46:9
 returns-2 : tie.Need-returns-2
 returns-2 c = wins-same _ _ _ _ _ (c .before .before .before .before .apart .ensures) (c .before .before .before .apart2 .ensures) (c .before .before .if1 .left) (c .before .if2 .taken) _ (c .preferred .ensures)
 
--- src/offset.rt:37:1
 returns-3 : tie.Need-returns-3
 returns-3 c = wins-not _ _ _ _ _ (c .before .before .before .apart .ensures) (c .before .before .apart2 .ensures) (c .before .if1 .left) (c .if2 .left)
 

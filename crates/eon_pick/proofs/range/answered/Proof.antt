@@ -8,19 +8,15 @@ use Rattle.eon_pick.proofs.range.answered.Tie as tie
 use Rattle.eon_pick.proofs.range.answered.Reads as reads
 use Rattle.eon_pick.proofs.range.answered.Lts as lts
 
--- src/range.rt:128:25
 enum-known-plan : tie.Need-enum-known-plan
 enum-known-plan c = search needs
 
--- src/range.rt:129:22
 enum-known-plan-2 : tie.Need-enum-known-plan-2
 enum-known-plan-2 c = search needs
 
--- src/range.rt:124:1
 returns : tie.Need-returns
 returns c = sym (ap (λ (a : Answer). answeredBy (outcomeOf a) (c .before .before .before .args .count)) (c .before .plan .given .1))
 
--- src/range.rt:124:1
 returns-2 : tie.Need-returns-2
 returns-2 c = sym (ap (λ (a : Answer). answeredBy (outcomeOf a) (c .before .before .before .args .count)) (c .before .plan2 .given .1))
 

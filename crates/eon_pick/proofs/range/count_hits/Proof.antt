@@ -14,35 +14,27 @@ Inv-loop table n from to count₀ i₀ count i = Counting from to n table count 
 abbrev μ-loop : tie.MeasureT-loop
 μ-loop table n from to count₀ i₀ count i = n - i
 
--- src/range.rt:61:9
 next-hit-requires : tie.Need-next-hit-requires Inv-loop μ-loop
 next-hit-requires c κs = omega arith
 
--- src/range.rt:62:5
 loop-holds : tie.Need-loop-holds Inv-loop μ-loop
 loop-holds c = counts _ _ _ (c .before .before .args .table .now) _ (c .next-hit .ensures)
 
--- src/range.rt:63:9
 add-count : tie.Need-add-count Inv-loop μ-loop
 add-count c = omega arith
 
--- src/range.rt:64:42
 add-next-hit : tie.Need-add-next-hit Inv-loop μ-loop
 add-next-hit c = omega arith
 
--- src/range.rt:64:9
 next-hit-requires-2 : tie.Need-next-hit-requires-2 Inv-loop μ-loop
 next-hit-requires-2 c κs = omega arith
 
--- src/range.rt:62:5
 loop-less : tie.Need-loop-less Inv-loop μ-loop
 loop-less c = omega (arith, c .next-hit2 .ensures .0, c .next-hit2 .ensures .1)
 
--- src/range.rt:62:5
 loop-again : tie.Need-loop-again Inv-loop μ-loop
 loop-again c = counts-on _ _ _ (c .before .before .before .before .before .args .table .now) _ _ _ (c .before .before .loop .inv) (c .before .loop-test .taken) (c .next-hit2 .ensures)
 
--- src/range.rt:57:1
 returns : tie.Need-returns Inv-loop μ-loop
 returns c = counted _ _ _ (c .before .before .before .before .args .table .now) _ _ (c .before .loop .inv) (c .loop-test .left)
 

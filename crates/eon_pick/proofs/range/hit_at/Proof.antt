@@ -9,15 +9,12 @@ use Rattle.eon_pick.proofs.range.hit_at.Lts as lts
 use Rattle.eon_table.proofs.record.end.Reads as end-reads
 use Rattle.eon_table.proofs.record.start.Reads as start-reads
 
--- src/range.rt:73:9
 start-requires : tie.Need-start-requires
 start-requires c κs = search needs
 
--- src/range.rt:74:9
 end-requires : tie.Need-end-requires
 end-requires c κs = search needs
 
--- src/range.rt:70:1
 returns : tie.Need-returns
 returns c = hit-is _ _ _ (recordOf (now (c .before .before .before .args .table)) (c .before .before .before .args .i)) (c .before .start .ensures .0) (c .end .ensures .0)
 

@@ -17,31 +17,24 @@ Inv-loop table n from to i k₀ k = (i ≤ k) × (k ≤ n) × (hitsFrom from to 
 abbrev μ-loop : tie.MeasureT-loop
 μ-loop table n from to i k₀ k = n - k
 
--- src/range.rt:47:5
 loop-holds : tie.Need-loop-holds Inv-loop μ-loop
 loop-holds c = (omega arith, omega arith, refl)
 
--- src/range.rt:48:12
 shares-byte-requires : tie.Need-shares-byte-requires Inv-loop μ-loop
 shares-byte-requires c κs = search needs
 
--- src/range.rt:49:13
 returns : tie.Need-returns Inv-loop μ-loop
 returns c = (omega arith, omega arith, c .before .before .before .loop .inv .2, λ h. sym (c .before .shares-byte .ensures) ∙ c .if1 .taken)
 
--- src/range.rt:51:9
 add-k : tie.Need-add-k Inv-loop μ-loop
 add-k c = omega arith
 
--- src/range.rt:47:5
 loop-less : tie.Need-loop-less Inv-loop μ-loop
 loop-less c = omega arith
 
--- src/range.rt:47:5
 loop-again : tie.Need-loop-again Inv-loop μ-loop
 loop-again c = (omega arith, omega arith, c .before .before .before .loop .inv .2 ∙ miss _ _ _ _ _ (c .before .before .loop-test .taken) (sym (c .before .shares-byte .ensures) ∙ c .if1 .left))
 
--- src/range.rt:42:1
 returns-2 : tie.Need-returns-2 Inv-loop μ-loop
 returns-2 c = (omega arith, omega arith, c .before .loop .inv .2, λ h. absurd (lt-irrefl _ (lt-of-lt-of-le h (c .loop-test .left))))
 

@@ -12,35 +12,27 @@ use Rattle.eon_parse.proofs.finished.Reads as finished-reads
 use Rattle.eon_pick.proofs.range.count_hits.Reads as count-hits-reads
 use Rattle.eon_spec.proofs.Refusal.new.Reads as new-reads
 
--- src/range.rt:102:11
 finished-requires : tie.Need-finished-requires
 finished-requires c κs = search needs
 
--- src/range.rt:103:25
 enum-known-r : tie.Need-enum-known-r
 enum-known-r c = search needs
 
--- src/range.rt:104:22
 enum-known-n : tie.Need-enum-known-n
 enum-known-n c = search needs
 
--- src/range.rt:105:23
 count-hits-requires : tie.Need-count-hits-requires
 count-hits-requires c κs = search needs
 
--- src/range.rt:106:40
 new-requires : tie.Need-new-requires
 new-requires c κs = search needs
 
--- src/range.rt:106:17
 returns : tie.Need-returns
 returns c = ap refusedWith (c .new .ensures) ∙ too-short (now (c .before .before .before .before .before .before .before .before .before .args .text)) (now (c .before .before .before .before .before .before .before .before .before .args .table)) (c .before .before .before .before .n .given .0 .0) (c .before .before .before .before .before .before .before .before .before .args .from) (c .before .before .before .before .before .before .before .before .before .args .to) (c .before .before .before .before .before .before .before .before .before .args .room) (finished-done (now (c .before .before .before .before .before .before .before .before .before .args .text)) (now (c .before .before .before .before .before .before .before .before .before .args .table)) (c .before .before .before .before .n .given .0 .0) (sym (ap outcomeOf (c .before .before .before .before .n .given .1)) ∙ c .before .before .before .before .before .before .finished .ensures)) _ (c .before .before .count-hits .ensures) (c .before .if1 .taken)
 
--- src/range.rt:99:1
 returns-2 : tie.Need-returns-2
 returns-2 c = refuses-plan (now (c .before .before .before .before .before .before .args .text)) (now (c .before .before .before .before .before .before .args .table)) (c .before .before .before .before .before .before .args .from) (c .before .before .before .before .before .before .args .to) (c .before .before .before .before .before .before .args .room) (c .before .r .given .0 .0) (sym (ap outcomeOf (c .before .r .given .1)) ∙ c .before .before .before .finished .ensures)
 
--- src/range.rt:99:1
 returns-3 : tie.Need-returns-3
 returns-3 c = has-room (now (c .before .before .before .before .before .before .before .before .args .text)) (now (c .before .before .before .before .before .before .before .before .args .table)) (c .before .before .before .n .given .0 .0) (c .before .before .before .before .before .before .before .before .args .from) (c .before .before .before .before .before .before .before .before .args .to) (c .before .before .before .before .before .before .before .before .args .room) (finished-done (now (c .before .before .before .before .before .before .before .before .args .text)) (now (c .before .before .before .before .before .before .before .before .args .table)) (c .before .before .before .n .given .0 .0) (sym (ap outcomeOf (c .before .before .before .n .given .1)) ∙ c .before .before .before .before .before .finished .ensures)) _ (c .before .count-hits .ensures) (c .if1 .left)
 

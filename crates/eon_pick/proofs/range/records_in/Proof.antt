@@ -42,7 +42,7 @@ use denote.Exit.{yes}
 use Rattle.eon_spec.specs.declared.Hit.{Hit}
 use Rattle.eon_spec.specs.declared.Answer.{Answer}
 use Rattle.eon_spec.specs.Calls.{outcomeOf, after}
-use Rattle.eon_spec.specs.Pick.{rangeCall}
+use Rattle.eon_spec.specs.Pick.{recordsInCall}
 use Rattle.eon_spec.proofs.Hit as T
 use Rattle.eon_spec.proofs.Answer as F
 use Rattle.eon_spec.proofs.Answer.Laws as F′
@@ -206,7 +206,7 @@ module _ {M : Type 1} (𝓤 : URA M) (H : Heap 𝓤) (A : Atoms 𝓤) (W : Given
   ans-said : (f : Answer) (r : ℕ) (g : Answer) → ent 𝓤 (ensured 𝓤 H A ans.ended (ans.clauses 𝓤 H A mem run) tt (f, (r, tt)) tt g) (fact 𝓤 (Told f r g))
   ans-said f r g = exE 𝓤 _ (λ ws. snd∗ 𝓤 (sem 𝓤 H A (lasts ans.ended tt (f, (r, tt)) ws)) (fact 𝓤 (Told f r g)))
 
-  exits : (g : Answer) (u : Val) (l : List Hit) → after (outcomeOf g) l ≡ rangeCall text t frm to (now x) → length l ≡ len
+  exits : (g : Answer) (u : Val) (l : List Hit) → after (outcomeOf g) l ≡ recordsInCall text t frm to (now x) → length l ≡ len
       → ent 𝓤 (⋆ 𝓤 H A (‵ (flft κ₀ q₀) ∷ ToksF ∷ ‵ OwnText ∷ ‵ Own ∷ ‵ (finally T.the-row (x .name) l) ∷ ‵ (F.the-row .own g (u ∷ [])) ∷ [])) (Post u)
   exits g u l e same =
       qed W (‵ (flft κ₀ q₀) ∷ ToksF ∷ ‵ OwnText ∷ ‵ Own ∷ ‵ (finally T.the-row (x .name) l) ∷ ‵ (F.the-row .own g (u ∷ [])) ∷ []) ∵

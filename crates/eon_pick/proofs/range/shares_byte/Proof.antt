@@ -11,23 +11,18 @@ use Rattle.eon_pick.proofs.range.lesser.Reads as lesser-reads
 use Rattle.eon_table.proofs.record.end.Reads as end-reads
 use Rattle.eon_table.proofs.record.start.Reads as start-reads
 
--- src/range.rt:38:13
 start-requires : tie.Need-start-requires
 start-requires c κs = search needs
 
--- src/range.rt:38:5
 greater-requires : tie.Need-greater-requires
 greater-requires c κs = search needs
 
--- src/range.rt:38:45
 end-requires : tie.Need-end-requires
 end-requires c κs = search needs
 
--- src/range.rt:38:38
 lesser-requires : tie.Need-lesser-requires
 lesser-requires c κs = search needs
 
--- src/range.rt:35:1
 returns : tie.Need-returns
 returns c = shares _ _ _ _ _ _ (recordOf (now (c .before .before .before .before .before .args .table)) (c .before .before .before .before .before .args .i)) (c .before .before .before .start .ensures .0) (c .before .end .ensures .0) (c .before .before .greater .ensures) (c .lesser .ensures)
 

@@ -1,16 +1,15 @@
--- Laws of a picked place: the byte picked is covered and none covered wins over it; the record picked holds it, and none behind it does; a
--- record shares a byte with a range if a byte of the range is its.
+-- The place picked: the byte is covered and no covered byte wins over it, so none is nearer and of those as near none is earlier; the record
+-- holds it, and none behind it does.
 use mathlib.Core.Path.{_≡_, refl, sym, _∙_, ap, subst}
 use mathlib.Core.Bool.{Bool, true, false, _&&_, _||_, cond}
 use mathlib.Core.List.{List, [], _∷_, _++_}
 use mathlib.Core.Option.{Option, none, some}
 use Prim.Native.Nat.{ℕ, zero, suc, pred, _+_, _-_, min, max, _≤_, _<_}
 use native.Mathlib.Omega.{arith}
-use lib.ListN.{length}
 use lib.Dec.{ltb, leb, eqb, le→leb, lt→ltb}
 use Rattle.eon_spec.specs.Records.{Record}
-use Rattle.eon_laws.proofs.Facts.{clash, and-left, and-right, nor-left, nor-right, true-of, false-of, le-of, lt-of, eq-of, eqb-same, le-of-not, ltb-false}
-use Rattle.eon_spec.specs.Pick.{holdsByte, distance, nearestIn, prefers, wins, nearer, nearest, orThis, highest, pickedBy, picked, sharesByte, hitOf, hitThen, hits}
+use Rattle.eon_laws.proofs.Facts.{clash, and-left, and-right, nor-left, nor-right, true-of, false-of, le-of, lt-of, eq-of, eqb-same, le-of-not}
+use Rattle.eon_spec.specs.Pick.{holdsByte, distance, nearestIn, prefers, wins, nearer, nearest, orThis, highest, pickedBy, picked}
 
 -- some record holds the byte
 abbrev pub covered : ℕ → List Record → Bool
@@ -34,7 +33,7 @@ preferred o b a e f = omega (arith, lt-of b a f)
 not-preferred : (o b a : ℕ) → distance o b ≡ distance o a → prefers b a ≡ false → rank o a ≤ rank o b
 not-preferred o b a e f = omega (arith, le-of-not b a f)
 
-or-cases : (x y : Bool) {A : Type 0} → x || y ≡ true → (x ≡ true → A) → (y ≡ true → A) → A
+pub or-cases : (x y : Bool) {A : Type 0} → x || y ≡ true → (x ≡ true → A) → (y ≡ true → A) → A
 or-cases true y e f g = f refl
 or-cases false y e f g = g e
 
@@ -68,10 +67,10 @@ more-loses o b a h = false-of (wins o b a) λ e. omega (arith, wins-less o b a e
 
 -- ---- the nearest byte
 
-held : (b : ℕ) (r : Record) → holdsByte b r ≡ true → (r .start ≤ b) × (b < r .end)
+pub held : (b : ℕ) (r : Record) → holdsByte b r ≡ true → (r .start ≤ b) × (b < r .end)
 held b r e = (le-of (r .start) b (and-left (leb (r .start) b) (ltb b (r .end)) e), lt-of b (r .end) (and-right (leb (r .start) b) (ltb b (r .end)) e))
 
-holds-of : (b : ℕ) (r : Record) → r .start ≤ b → b < r .end → holdsByte b r ≡ true
+pub holds-of : (b : ℕ) (r : Record) → r .start ≤ b → b < r .end → holdsByte b r ≡ true
 holds-of b r g h = both-true (leb (r .start) b) (ltb b (r .end)) (true-of (leb (r .start) b) (le→leb (r .start) b g)) (true-of (ltb b (r .end)) (lt→ltb b (r .end) h))
   where
     both-true : (x y : Bool) → x ≡ true → y ≡ true → x && y ≡ true
@@ -192,6 +191,18 @@ pub nearest-found : (o : ℕ) (rs : List Record) → Found o rs (nearest o rs)
 nearest-found o [] = λ c. refl
 nearest-found o (r ∷ rs) = nearer-found o r rs (nearestIn o r) (nearest o rs) refl (nearest-found o rs)
 
+-- in numbers: no covered byte is nearer, and of the covered bytes that are as near none is earlier
+pub none-nearer : (o b c : ℕ) (rs : List Record) → Nearest o b rs → covered c rs ≡ true → distance o b ≤ distance o c
+none-nearer o b c rs n h = le-of-not (distance o c) (distance o b) (nor-left (ltb (distance o c) (distance o b)) (eqb (distance o c) (distance o b) && prefers c b) (n .none-wins c h))
+
+pub tie-earlier : (o b c : ℕ) (rs : List Record) → Nearest o b rs → covered c rs ≡ true → distance o c ≡ distance o b → b ≤ c
+tie-earlier o b c rs n h e =
+    le-of-not c b (go (eqb (distance o c) (distance o b)) (eqb-of (distance o c) (distance o b) e) (nor-right (ltb (distance o c) (distance o b)) (eqb (distance o c) (distance o b) && prefers c b) (n .none-wins c h)))
+  where
+    go : (x : Bool) → x ≡ true → x && prefers c b ≡ false → prefers c b ≡ false
+    go true p f = f
+    go false p f = clash p refl
+
 -- a record that holds the offset is preferred to any neighbour
 pub offset-held : (o b : ℕ) (rs : List Record) → covered o rs ≡ true → Nearest o b rs → b ≡ o
 offset-held o b rs h n = let l = loses-more o o b (n .none-wins o h) in sole o b (le-le (rank o b) (rank o o) 0 l (rank-here o 0))
@@ -269,24 +280,6 @@ picked-is o rs = go (nearest o rs) (nearest-found o rs)
     go none f = f
     go (some b) f = top b f (highest b 0 rs) (highest-top b 0 rs)
 
--- ---- a range
-
--- a record "that shares a byte with the range" holds one of its bytes, and one that holds a byte of the range shares it
-pub shares-byte : (from to : ℕ) (r : Record) → sharesByte from to r ≡ true → (b : ℕ) × (from ≤ b) × (b < to) × (holdsByte b r ≡ true)
-shares-byte from to r e =
-    let l = lt-of (max (r .start) from) (min (r .end) to) e in
-    (max (r .start) from, omega arith, omega arith, holds-of (max (r .start) from) r (omega arith) (omega arith))
-
-pub byte-shares : (from to b : ℕ) (r : Record) → from ≤ b → b < to → holdsByte b r ≡ true → sharesByte from to r ≡ true
-byte-shares from to b r g h e =
-    let k = held b r e in
-    true-of (ltb (max (r .start) from) (min (r .end) to)) (lt→ltb (max (r .start) from) (min (r .end) to) (omega (arith, k .0, k .1)))
-
--- an empty or reversed range has no hits
-pub no-hits : (from to n : ℕ) (rs : List Record) → to ≤ from → hits from to n rs ≡ []
-no-hits from to n [] h = refl
-no-hits from to n (r ∷ rs) h = ap (λ (b : Bool). hitThen b (hitOf n r) (hits from to (suc n) rs)) (ltb-false (max (r .start) from) (min (r .end) to) (omega arith)) ∙ no-hits from to (suc n) rs h
-
 -- ---- record by record, as a loop goes
 
 less-not : (m n : ℕ) → m < n → n ≤ m → ⊥
@@ -321,23 +314,3 @@ nearer-assoc o (some a) (some b) (some c) = go (wins o b a) (wins o c b) refl re
 pub nearest-next : (o : ℕ) (rs : List Record) (r : Record) → nearest o (rs ++ (r ∷ [])) ≡ nearer o (nearest o rs) (nearestIn o r)
 nearest-next o [] r = nearer-none o (nearestIn o r)
 nearest-next o (q ∷ rs) r = ap (nearer o (nearestIn o q)) (nearest-next o rs r) ∙ sym (nearer-assoc o (nearestIn o q) (nearest o rs) (nearestIn o r))
-
-pub highest-next : (b n : ℕ) (rs : List Record) (r : Record) → highest b n (rs ++ (r ∷ [])) ≡ cond (holdsByte b r) (some (n + length rs)) (highest b n rs)
-highest-next b n [] r = let z : n ≡ n + 0 = omega arith in ap (λ (m : ℕ). cond (holdsByte b r) (some m) none) z
-highest-next b n (q ∷ rs) r =
-    let z : suc n + length rs ≡ n + suc (length rs) = omega arith in
-    ap (λ (x : Option ℕ). orThis x (holdsByte b q) n) (highest-next b (suc n) rs r ∙ ap (λ (m : ℕ). cond (holdsByte b r) (some m) (highest b (suc n) rs)) z) ∙ go (holdsByte b r)
-  where
-    go : (x : Bool) → orThis (cond x (some (n + suc (length rs))) (highest b (suc n) rs)) (holdsByte b q) n ≡ cond x (some (n + suc (length rs))) (orThis (highest b (suc n) rs) (holdsByte b q) n)
-    go true = refl
-    go false = refl
-
-pub hits-next : (from to n : ℕ) (rs : List Record) (r : Record) → hits from to n (rs ++ (r ∷ [])) ≡ hits from to n rs ++ hitThen (sharesByte from to r) (hitOf (n + length rs) r) []
-hits-next from to n [] r = let z : n ≡ n + 0 = omega arith in ap (λ (m : ℕ). hitThen (sharesByte from to r) (hitOf m r) []) z
-hits-next from to n (q ∷ rs) r =
-    ap (hitThen (sharesByte from to q) (hitOf n q)) (hits-next from to (suc n) rs r ∙ ap (λ (m : ℕ). hits from to (suc n) rs ++ hitThen (sharesByte from to r) (hitOf m r) []) (omega arith))
-    ∙ go (sharesByte from to q)
-  where
-    go : (x : Bool) → hitThen x (hitOf n q) (hits from to (suc n) rs ++ hitThen (sharesByte from to r) (hitOf (n + suc (length rs)) r) []) ≡ hitThen x (hitOf n q) (hits from to (suc n) rs) ++ hitThen (sharesByte from to r) (hitOf (n + suc (length rs)) r) []
-    go true = refl
-    go false = refl
