@@ -17,7 +17,7 @@ use Rattle.eon_spec.specs.declared.Unquoted.the-variants as unquoted
 use Rattle.eon_spec.specs.declared.Setting.{Setting}
 use Rattle.eon_spec.specs.declared.FormatOptions.{FormatOptions}
 use Rattle.eon_spec.specs.Layout.{settingOf}
-use Rattle.eon_spec.specs.Calls.{Outcome, After, after, AfterBoth, afterBoth, outcomeOf, comparedOutcome, unquotedOutcome, partOf, showCall}
+use Rattle.eon_spec.specs.Calls.{Outcome, AfterIn, after, AfterBoth, afterBoth, outcomeOf, comparedOutcome, unquotedOutcome, partOf, showCall}
 use Rattle.eon_c.specs.Words.{refusedWords, doneWords, countWords, truthWords, partWords, sliceNumber, whichOf, shownWords, optionsOf}
 
 module _ (w : List ℕ) where
@@ -59,8 +59,8 @@ not-quoted zero h = absurd (h refl)
 not-quoted (suc n) h = refl
 
 -- a call with one memory, in words
-pub answered : {A : Type 0} (f : Outcome A → List ℕ) (w : List ℕ) (a : Outcome A) (m : List ℕ) (x : After A) → w ≡ f a → after a m ≡ x → (w ≡ f (x .answer)) × (m ≡ x .memory)
-answered f w a m x e g = (e ∙ ap (λ (y : After _). f (y .answer)) g, ap (λ (y : After _). y .memory) g)
+pub answered : {A E : Type 0} (f : Outcome A → List ℕ) (w : List ℕ) (a : Outcome A) (m : List E) (x : AfterIn E A) → w ≡ f a → after a m ≡ x → (w ≡ f (x .answer)) × (m ≡ x .memory)
+answered f w a m x e g = (e ∙ ap (λ (y : AfterIn _ _). f (y .answer)) g, ap (λ (y : AfterIn _ _). y .memory) g)
 
 -- a call with two
 pub answered-both : (f : Outcome ℕ → List ℕ) (w : List ℕ) (a : Outcome ℕ) (table out : List ℕ) (x : AfterBoth) → w ≡ f a → afterBoth a table out ≡ x → (w ≡ f (x .answer)) × ((table ≡ x .table) × (out ≡ x .out))

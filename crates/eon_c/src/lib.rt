@@ -3,10 +3,12 @@ ghost use mathlib.Core.Path.{_≡_};
 ghost use lib.ListN.{length};
 ghost use Rattle.eon_spec.specs.Unquote.{isValidIdentifier};
 ghost use Rattle.eon_spec.specs.Calls.{after, outcomeOf, readCall, formatCall, reformatCall, comparedOutcome, compareCall, unquotedOutcome, unquoteCall, partOf, showCall};
+ghost use Rattle.eon_spec.specs.Pick.{recordAtCall, recordsInCall};
 ghost use Rattle.eon_c.specs.Words.{refusedWords, doneWords, countWords, truthWords, sliceNumber, whichOf, partWords, shownWords, optionsOf};
 use eon_spec::Answer;
 use eon_spec::Compared;
 use eon_spec::FormatOptions;
+use eon_spec::Hit;
 use eon_spec::Refusal;
 use eon_spec::Setting;
 use eon_spec::Unquoted;
@@ -40,6 +42,12 @@ fn count_words(a: Answer) -> [u64; 8]
         Answer::Done(n) => done_words(n as u64, 0, 0),
         Answer::Refused(r) => refused_words(r),
     }
+}
+
+fn put_count(a: Answer, answer: &mut [u64; 8])
+    ensures { λ _. ⌜ now (answer .exit) ≡ countWords (outcomeOf a) ⌝ }
+{
+    *answer = count_words(a);
 }
 
 fn truth_words(c: Compared) -> [u64; 8]
@@ -161,6 +169,30 @@ pub extern "C" fn eon_compare(
     ensures { λ _. ⌜ now (answer .exit) ≡ truthWords (compareCall (now (text1 .entry)) (now (table1 .entry)) (now (text2 .entry)) (now (table2 .entry))) ⌝ }
 {
     *answer = truth_words(eon_syntax::compare(text1, table1, text2, table2));
+}
+
+// A usize has 64 bits: C's uint64_t.
+#[no_mangle]
+pub extern "C" fn eon_record_at(text: &[u8], table: &[u32], offset: usize, answer: &mut [u64; 8])
+    ensures { λ _. ⌜ now (answer .exit) ≡ countWords (recordAtCall (now (text .entry)) (now (table .entry)) offset) ⌝ }
+{
+    *answer = count_words(eon_syntax::record_at(text, table, offset));
+}
+
+// A function with a list of structs is proved by a walk by hand: this one hands both memories on and decides nothing.
+#[no_mangle]
+pub extern "C" fn eon_records_in(
+    text: &[u8],
+    table: &[u32],
+    from: usize,
+    to: usize,
+    hits: &mut [Hit],
+    answer: &mut [u64; 8],
+)
+    ensures { λ _. ⌜ (now (answer .exit) ≡ countWords (recordsInCall (now (text .entry)) (now (table .entry)) from to (now (hits .entry)) .answer)) × (now (hits .exit) ≡ recordsInCall (now (text .entry)) (now (table .entry)) from to (now (hits .entry)) .memory) ⌝ }
+{
+    let found = eon_syntax::records_in(text, table, from, to, hits);
+    put_count(found, answer);
 }
 
 #[no_mangle]

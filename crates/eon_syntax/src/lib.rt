@@ -2,9 +2,11 @@
 ghost use mathlib.Core.Path.{_≡_};
 ghost use Rattle.eon_spec.specs.Unquote.{isValidIdentifier};
 ghost use Rattle.eon_spec.specs.Calls.{after, outcomeOf, readCall, formatCall, afterBoth, reformatCall, comparedOutcome, compareCall, unquotedOutcome, unquoteCall, partOf, showCall, shownPlace};
+ghost use Rattle.eon_spec.specs.Pick.{recordAtCall, recordsInCall};
 use eon_spec::Answer;
 use eon_spec::Compared;
 use eon_spec::FormatOptions;
+use eon_spec::Hit;
 use eon_spec::Refusal;
 use eon_spec::Unquoted;
 use eon_spec::Which;
@@ -43,6 +45,20 @@ pub fn compare(text1: &[u8], table1: &[u32], text2: &[u8], table2: &[u32]) -> Co
     ensures { λ r. ⌜ comparedOutcome r ≡ compareCall (now (text1 .entry)) (now (table1 .entry)) (now (text2 .entry)) (now (table2 .entry)) ⌝ }
 {
     eon_compare::compare(text1, table1, text2, table2)
+}
+
+// The number of the record at a byte offset: the highest that holds the offset, or else the nearest byte that a record covers.
+pub fn record_at(text: &[u8], table: &[u32], offset: usize) -> Answer
+    ensures { λ r. ⌜ outcomeOf r ≡ recordAtCall (now (text .entry)) (now (table .entry)) offset ⌝ }
+{
+    eon_pick::record_at(text, table, offset)
+}
+
+// Lists the records that share a byte with a range, its end not counted, and answers how many they are.
+pub fn records_in(text: &[u8], table: &[u32], from: usize, to: usize, hits: &mut [Hit]) -> Answer
+    ensures { λ r. ⌜ after (outcomeOf r) (now (hits .exit)) ≡ recordsInCall (now (text .entry)) (now (table .entry)) from to (now (hits .entry)) ⌝ }
+{
+    eon_pick::records_in(text, table, from, to, hits)
 }
 
 // Does a string without its quotes need none? `[a-zA-Z_][a-zA-Z0-9_]*` and no keyword.
