@@ -1,15 +1,17 @@
 /* Eon texts by the proved calls of crates/eon_c. Link target/staticlib/libeon_c.a, written by `rt staticlib eon_c`.
  *
  * Texts are any bytes; read are those of at most EON_MAX_TEXT bytes of UTF-8. A call answers, or refuses by a number, and a
- * refusal leaves the lent table, output or scratch as it was. No call allocates, keeps a pointer, or needs a text that ends
- * in a zero byte. What the caller owes:
+ * refusal leaves the lent table, output, scratch or list as it was. No call allocates, keeps a pointer, or needs a text that
+ * ends in a zero byte. What the caller owes:
  * - a pointer is good for its length; where that is 0 it is not looked at, and may be null;
- * - tables, outputs, scratches and answers are initialised, also where a call only writes them, and aligned as their types;
+ * - tables, outputs, scratches, lists and answers are initialised, also where a call only writes them, and aligned as their
+ *   types;
  * - what is lent to be written overlaps nothing else that is handed to the same call;
  * - the call's stack, EON_STACK_..; a thread needs some 10 KB for itself besides.
  *
  * A table has EON_RECORD_WORDS words a record, records in the order of the text: kind, start, text end (a variant name's
  * end, otherwise the end), end, and the number of records in it counting itself. A map's values alternate, key and value.
+ * Records are numbered from 0 on. A record's span is its bytes from its start on, its end not counted.
  */
 #ifndef EON_H
 #define EON_H
@@ -23,17 +25,19 @@ extern "C" {
 #endif
 
 /* The version of this header and of the archive that it goes with: major, minor, patch. */
-#define EON_VERSION "0.1.0"
-#define EON_VERSION_NUMBER 100 /* 10000 * major + 100 * minor + patch */
+#define EON_VERSION "0.2.0"
+#define EON_VERSION_NUMBER 200 /* 10000 * major + 100 * minor + patch */
 
 #define EON_MAX_TEXT 65535
 #define EON_RECORD_WORDS 5
 
 /* Lent so much, no call on a text of n bytes refuses by EON_NO_SPACE: the table's words, the layout's bytes under
- * EON_DEFAULT_SETTINGS (an indentation of at most 65 tabs, a line end, a blank line and a byte), the scratch's bytes. */
+ * EON_DEFAULT_SETTINGS (an indentation of at most 65 tabs, a line end, a blank line and a byte), the scratch's bytes, the
+ * list's hits. */
 #define EON_TABLE_WORDS(n) (EON_RECORD_WORDS * ((n) + 1))
 #define EON_LAYOUT_BYTES(n) (68 * ((n) + 1))
 #define EON_SCRATCH_BYTES(n) (n)
+#define EON_HITS(n) ((n) + 1)
 
 /* Bytes of stack that a call takes at most, with a margin; reformatting by the length of the text. */
 #define EON_STACK_READ (100 * 1024)
@@ -42,6 +46,8 @@ extern "C" {
 #define EON_STACK_REFORMAT_MEDIUM (550 * 1024) /* up to EON_MEDIUM_TEXT bytes */
 #define EON_STACK_REFORMAT (1700 * 1024)
 #define EON_STACK_COMPARE (100 * 1024)
+#define EON_STACK_RECORD_AT (100 * 1024)
+#define EON_STACK_RECORDS_IN (100 * 1024)
 #define EON_STACK_OTHERS (8 * 1024)
 #define EON_SMALL_TEXT 2047
 #define EON_MEDIUM_TEXT 16383
@@ -94,7 +100,7 @@ enum eon_refusal {
     EON_NO_SPACE,             /* the answer is longer than the lent memory */
     EON_STALE,                /* the table is not this text's */
     EON_BAD_SETTINGS,         /* a setting over 16 bytes or not UTF-8 */
-    EON_NO_OPENING_QUOTE,     /* from here on: of unquoting */
+    EON_NO_OPENING_QUOTE,     /* from here to EON_NO_SCALAR_VALUE: of unquoting */
     EON_NO_CLOSING_QUOTE,
     EON_LINE_BREAK,           /* in a one-line string */
     EON_ENDS_IN_BACKSLASH,
@@ -103,7 +109,8 @@ enum eon_refusal {
     EON_NINTH_DIGIT,          /* in \u{..} */
     EON_FOREIGN_CHARACTER,    /* in \u{..} */
     EON_NOT_CLOSED,           /* \u{.. */
-    EON_NO_SCALAR_VALUE       /* \u{..} of a code point that is no Unicode scalar value */
+    EON_NO_SCALAR_VALUE,      /* \u{..} of a code point that is no Unicode scalar value */
+    EON_NO_BYTE               /* of the record at an offset: the records cover no byte */
 };
 
 /* Every call but the identifier test writes all eight words. */
@@ -113,7 +120,7 @@ typedef struct eon_answer {
     uint64_t end;      /* where it ends */
     uint64_t expected; /* EON_MISMATCH, EON_CUT_OFF: the token kind expected; otherwise 0 */
     uint64_t found;    /* EON_MISMATCH: the token kind found; otherwise 0 */
-    uint64_t value;    /* answered: the count that the call names; refused: 0 */
+    uint64_t value;    /* answered: the number that the call names; refused: 0 */
     uint64_t slice;    /* unquoting: 0, the value is a part of the quoted slice; 1, of the scratch */
     uint64_t from;     /* unquoting: where in that slice the value starts */
 } eon_answer;
@@ -148,6 +155,27 @@ void eon_reformat(const uint8_t *text, size_t text_len, uint32_t *table, size_t 
 void eon_compare(const uint8_t *text1, size_t text1_len, const uint32_t *table1, size_t table1_words,
                  const uint8_t *text2, size_t text2_len, const uint32_t *table2, size_t table2_words,
                  eon_answer *answer);
+
+/* The record at a byte offset of a text with its finished table. value: the number of the highest-numbered record whose
+ * span holds the offset. If none does, the nearest byte that a record covers stands in for the offset; of one before and one
+ * after at equal distance, the earlier. An offset beyond the text is allowed. Refuses by 1 to 13, 15, then by 27 if the
+ * records cover no byte, which is so of the empty text alone. */
+void eon_record_at(const uint8_t *text, size_t text_len, const uint32_t *table, size_t table_words, uint64_t offset,
+                   eon_answer *answer);
+
+/* A record's number and its span. */
+typedef struct eon_hit {
+    uint64_t record;
+    uint64_t start;
+    uint64_t end;
+} eon_hit;
+
+/* The records of a text with its finished table that share a byte with the range from `start` on, its `end` not counted.
+ * value: how many; they are the first hits of the list, in table order, and the hits behind them keep their content. A range
+ * may reach beyond the text; an empty or reversed one shares no byte. Refuses by 1 to 13, 15, then by 14 if the list is too
+ * short. As many hits as the text has records suffice. */
+void eon_records_in(const uint8_t *text, size_t text_len, const uint32_t *table, size_t table_words, uint64_t start,
+                    uint64_t end, eon_hit *hits, size_t hits_len, eon_answer *answer);
 
 /* The value of a quoted string. value: its length; it stands at `from` in the quoted slice (slice 0) if that has no
  * carriage return and is literal or has no backslash; the scratch is then unchanged. Otherwise it is the beginning of the
@@ -193,6 +221,7 @@ static inline const char *eon_refusal_word(uint64_t number) {
     case EON_FOREIGN_CHARACTER: return "foreign character in `\\u{..}`";
     case EON_NOT_CLOSED: return "`\\u{..}` not closed";
     case EON_NO_SCALAR_VALUE: return "not a Unicode scalar value";
+    case EON_NO_BYTE: return "no byte covered";
     default: return "unknown refusal";
     }
 }

@@ -1,5 +1,5 @@
-//! Eon texts by proved calls. Texts are any bytes; tables, outputs and scratches are lent by the
-//! caller; nothing is allocated and nothing panics.
+//! Eon texts by proved calls. Texts are any bytes; tables, outputs, scratches and lists are lent by
+//! the caller; nothing is allocated and nothing panics.
 //!
 //! A call answers a value or a [`Refusal`], and a refusal leaves what was lent as it was. What each
 //! takes of the [`stack`] is known.
@@ -15,10 +15,12 @@
 
 #![no_std]
 
+mod pick;
 mod refusal;
 pub mod stack;
 pub mod sys;
 
+pub use pick::{Hit, hits, record_at, records_in};
 pub use refusal::{LineColumn, Refusal, RefusalKind, TokenKind};
 
 use sys::Answer;

@@ -73,6 +73,7 @@ numbered! {
         24 ForeignCharacter "foreign character in `\\u{..}`",
         25 NotClosed "`\\u{..}` not closed",
         26 NoScalarValue "not a Unicode scalar value",
+        27 NoByte "no byte covered",
     }
 }
 

@@ -4,6 +4,8 @@
 pub const READ: usize = 100 * 1024;
 pub const FORMAT: usize = 130 * 1024;
 pub const COMPARE: usize = 100 * 1024;
+pub const RECORD_AT: usize = 100 * 1024;
+pub const RECORDS_IN: usize = 100 * 1024;
 /// Unquoting, showing and the identifier test.
 pub const OTHERS: usize = 8 * 1024;
 

@@ -1,5 +1,7 @@
 //! The calls of `include/eon.h`.
 
+use crate::Hit;
+
 /// The eight words of an answer.
 #[repr(C)]
 #[derive(Clone, Copy, Debug, Default, PartialEq, Eq)]
@@ -81,6 +83,27 @@ unsafe extern "C" {
         text2_len: usize,
         table2: *const u32,
         table2_words: usize,
+        answer: *mut Answer,
+    );
+
+    pub fn eon_record_at(
+        text: *const u8,
+        text_len: usize,
+        table: *const u32,
+        table_words: usize,
+        offset: u64,
+        answer: *mut Answer,
+    );
+
+    pub fn eon_records_in(
+        text: *const u8,
+        text_len: usize,
+        table: *const u32,
+        table_words: usize,
+        start: u64,
+        end: u64,
+        hits: *mut Hit,
+        hits_len: usize,
         answer: *mut Answer,
     );
 

@@ -114,12 +114,18 @@ fn defines(name: &str, meaning: &str) {
 
 #[test]
 fn sizes() {
-    defines("EON_VERSION", &format!("{:?}", env!("CARGO_PKG_VERSION")));
+    let version = env!("CARGO_PKG_VERSION");
+    let parts = version.split('.').map(|part| part.parse::<u32>().unwrap());
+    let number = parts.fold(0, |number, part| 100 * number + part);
+    defines("EON_VERSION", &format!("{version:?}"));
+    defines("EON_VERSION_NUMBER", &number.to_string());
     defines("EON_RECORD_WORDS", &eon::RECORD_WORDS.to_string());
     assert_eq!(eon::table_words(9), eon::RECORD_WORDS * (9 + 1));
     let line = eon::layout_bytes(0);
     defines("EON_LAYOUT_BYTES(n)", &format!("({line} * ((n) + 1))"));
     assert_eq!(eon::layout_bytes(9), line * (9 + 1));
+    defines("EON_HITS(n)", "((n) + 1)");
+    assert_eq!(eon::hits(9), 9 + 1);
 }
 
 #[test]
@@ -131,6 +137,8 @@ fn stacks() {
         ("READ", stack::READ),
         ("FORMAT", stack::FORMAT),
         ("COMPARE", stack::COMPARE),
+        ("RECORD_AT", stack::RECORD_AT),
+        ("RECORDS_IN", stack::RECORDS_IN),
         ("OTHERS", stack::OTHERS),
         ("REFORMAT_SMALL", stack::reformat(0)),
         ("REFORMAT_SMALL", stack::reformat(small)),
