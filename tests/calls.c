@@ -44,6 +44,14 @@ static void null_with_length_0(void) {
     EXPECT(answered(1));
     eon_compare(NULL, 0, NULL, 0, NULL, 0, NULL, 0, &answer);
     EXPECT(refused_by(EON_STALE));
+    eon_record_at(NULL, 0, table, EON_TABLE_WORDS(0), 0, &answer);
+    EXPECT(refused_by(EON_NO_BYTE));
+    eon_record_at(NULL, 0, NULL, 0, 0, &answer);
+    EXPECT(refused_by(EON_STALE));
+    eon_records_in(NULL, 0, table, EON_TABLE_WORDS(0), 0, 1, NULL, 0, &answer);
+    EXPECT(answered(0));
+    eon_records_in(NULL, 0, NULL, 0, 0, 1, NULL, 0, &answer);
+    EXPECT(refused_by(EON_STALE));
     eon_unquote(NULL, 0, NULL, 0, &answer);
     EXPECT(refused_by(EON_NO_OPENING_QUOTE));
     eon_unquote(BYTES("'a'"), NULL, 0, &answer);

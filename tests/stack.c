@@ -25,6 +25,7 @@ static uint8_t text[EON_MAX_TEXT];
 static size_t length;
 static uint32_t table[EON_TABLE_WORDS(EON_MAX_TEXT)];
 static uint8_t out[EON_LAYOUT_BYTES(EON_MAX_TEXT)];
+static eon_hit hits[EON_HITS(EON_MAX_TEXT)];
 static eon_answer answer;
 
 #define TABLE table, sizeof table / sizeof *table
@@ -46,6 +47,16 @@ static void *reformat_it(void *unused) {
 
 static void *compare_it(void *unused) {
     eon_compare(text, length, TABLE, text, length, TABLE, &answer);
+    return unused;
+}
+
+static void *record_at_it(void *unused) {
+    eon_record_at(text, length, TABLE, length / 2, &answer);
+    return unused;
+}
+
+static void *records_in_it(void *unused) {
+    eon_records_in(text, length, TABLE, 0, length, hits, sizeof hits / sizeof *hits, &answer);
     return unused;
 }
 
@@ -74,6 +85,8 @@ static const struct call {
     {"format", format_it, EON_STACK_FORMAT, EON_STACK_FORMAT, EON_STACK_FORMAT},
     {"reformat", reformat_it, EON_STACK_REFORMAT_SMALL, EON_STACK_REFORMAT_MEDIUM, EON_STACK_REFORMAT},
     {"compare", compare_it, EON_STACK_COMPARE, EON_STACK_COMPARE, EON_STACK_COMPARE},
+    {"record_at", record_at_it, EON_STACK_RECORD_AT, EON_STACK_RECORD_AT, EON_STACK_RECORD_AT},
+    {"records_in", records_in_it, EON_STACK_RECORDS_IN, EON_STACK_RECORDS_IN, EON_STACK_RECORDS_IN},
     {"unquote", unquote_it, EON_STACK_OTHERS, EON_STACK_OTHERS, EON_STACK_OTHERS},
     {"show", show_it, EON_STACK_OTHERS, EON_STACK_OTHERS, EON_STACK_OTHERS},
     {"is_valid_identifier", identify_it, EON_STACK_OTHERS, EON_STACK_OTHERS, EON_STACK_OTHERS},
