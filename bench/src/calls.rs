@@ -1,7 +1,7 @@
 //! The calls that are measured, each ready to be made again and again. Memory is lent once and not
 //! cleared between the calls.
 
-use eon::Settings;
+use eon::{Hit, Settings};
 use std::hint::black_box;
 
 pub type Call<'a> = Box<dyn FnMut() + 'a>;
@@ -9,9 +9,13 @@ pub type Call<'a> = Box<dyn FnMut() + 'a>;
 /// `original` runs over the compiled lexer, `general` over the oracle's automaton.
 pub const SIDES: [&str; 3] = ["ours", "original", "general"];
 
+/// Bytes of a narrow range.
+const LINE: usize = 80;
+
+/// None if the side does not have the call.
 pub fn call<'a>(side: &str, name: &str, text: &'a str) -> Option<Call<'a>> {
     match side {
-        "ours" => ours(name, text),
+        "ours" => ours(name, text).or_else(|| ours_alone(name, text)),
         "original" => original::call(name, text),
         "general" => general::call(name, text),
         _ => None,
@@ -43,6 +47,32 @@ fn ours<'a>(name: &str, text: &'a str) -> Option<Call<'a>> {
         // A text that does not begin with a quote is refused by 17 right after the check.
         "utf8" => Some(Box::new(move || {
             let _ = black_box(eon::unquote(black_box(text), &mut []));
+        })),
+        _ => None,
+    }
+}
+
+/// Calls that the original does not have, on a text with its finished table.
+fn ours_alone<'a>(name: &str, text: &'a str) -> Option<Call<'a>> {
+    let text = text.as_bytes();
+    let mut table = vec![0; eon::table_words(text.len())];
+    let mut hits = vec![Hit::default(); eon::hits(text.len())];
+    let _ = eon::read(text, &mut table);
+    let middle = text.len() / 2;
+    match name {
+        "compare" => Some(Box::new(move || {
+            let _ = black_box(eon::compare(black_box(text), &table, text, &table));
+        })),
+        "record_at" => Some(Box::new(move || {
+            let _ = black_box(eon::record_at(black_box(text), &table, middle));
+        })),
+        "records_in" => Some(Box::new(move || {
+            let all = 0..text.len();
+            let _ = black_box(eon::records_in(black_box(text), &table, all, &mut hits));
+        })),
+        "records_in, a line" => Some(Box::new(move || {
+            let line = middle..middle + LINE;
+            let _ = black_box(eon::records_in(black_box(text), &table, line, &mut hits));
         })),
         _ => None,
     }

@@ -1,5 +1,6 @@
 //! `bench times` prints times; `bench SIDE CALL SHAPE BYTES REPEATS` makes one call so often, for
-//! callgrind; `bench list` prints the rows. See docs/BENCHMARKS.md.
+//! callgrind; `bench list` prints the rows, each with the sides that have the call. See
+//! docs/BENCHMARKS.md.
 
 mod calls;
 mod texts;
@@ -11,7 +12,7 @@ use texts::Shape;
 
 const USAGE: &str = "usage: bench times
        bench list
-       bench ours|original|general read|format|reformat|unquote|utf8 SHAPE BYTES REPEATS";
+       bench ours|original|general CALL SHAPE BYTES REPEATS";
 
 /// The largest is a multiple of 8, so that marks in a row come out even as in the others.
 const SIZES: [usize; 3] = [1024, 8192, 65528];
@@ -27,7 +28,7 @@ fn main() -> ExitCode {
     let arguments: Vec<&str> = arguments.iter().map(String::as_str).collect();
     match arguments[..] {
         ["times"] => each_row(print_times),
-        ["list"] => each_row(|call, shape, bytes| println!("{call}\t{shape}\t{bytes}")),
+        ["list"] => each_row(print_sides),
         [side, call, shape, bytes, repeats] => {
             if repeat(side, call, shape, bytes, repeats).is_none() {
                 return usage();
@@ -58,6 +59,11 @@ fn each_row(mut row: impl FnMut(&str, &str, usize)) {
     for shape in ["ascii letters", "accents"] {
         each_size(|bytes| row("utf8", shape, bytes));
     }
+    for call in ["compare", "record_at", "records_in", "records_in, a line"] {
+        for shape in ["event", "map", "deep"] {
+            each_size(|bytes| row(call, shape, bytes));
+        }
+    }
 }
 
 fn each_size(row: impl FnMut(usize)) {
@@ -79,6 +85,15 @@ fn repeat(side: &str, call: &str, shape: &str, bytes: &str, repeats: &str) -> Op
         call();
     }
     Some(())
+}
+
+fn print_sides(call: &str, shape: &str, bytes: usize) {
+    let Some(text) = text(shape, bytes) else {
+        return;
+    };
+    let has_call = |side: &&str| calls::call(side, call, &text).is_some();
+    let sides: Vec<&str> = calls::SIDES.into_iter().filter(has_call).collect();
+    println!("{call}\t{shape}\t{bytes}\t{}", sides.join(" "));
 }
 
 /// Microseconds a call. The sides take turns, so that what slows the machine slows them all.
