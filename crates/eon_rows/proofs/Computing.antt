@@ -4,7 +4,7 @@ use Prim.Native.Nat.{ℕ, zero, suc}
 use Prim.Native.String.{String}
 use mathlib.Core.Bool.{Bool, true, false}
 use mathlib.Core.List.{List, [], _∷_, _++_}
-use lib.ListN.{replicate}
+use lib.ListN.{take, replicate}
 use Rattle.eon_spec.specs.Utf8.{utf8, encode, encodeChar, decode, charsFrom, chars, charLen, isUtf8, wellFormedLen, wellFormedFrom}
 use Rattle.eon_spec.specs.Regex.{deriv, longest}
 use Rattle.eon_spec.specs.Token.{Token, kindNumber, tokens, tokensFrom, longestRule, rules}
@@ -12,6 +12,8 @@ use Rattle.eon_spec.specs.Parse.{parse, parseTop, noneLeft, parseComments, suff
 use Rattle.eon_spec.specs.Records.{treeRecords, words}
 use Rattle.eon_spec.specs.Layout.{Settings, defaults, format, value, valuesOnOneLine, onOneLine}
 use Rattle.eon_spec.specs.Unquote.{unquote, unquoteChars, unescape, isValidIdentifier}
+use Rattle.eon_spec.specs.declared.Hit.{Hit}
+use Rattle.eon_spec.specs.Pick.{picked, recordAtCall, recordsInCall}
 use Rattle.eon_spec.specs.Calls.{Outcome, done, refusedWith, then, checked, readText, fill, readCall, readFinished, isFinished, compareCall, unquoteCall, unescapedOutcome, showCall}
 
 -- an answer as numbers: 0 and the answer, or the five numbers of a refusal
@@ -63,6 +65,28 @@ compares s t =
     let b = readCall t (replicate 200 0) in
     plain (then (compareCall s (a .memory) t (b .memory)) λ x. done (truth x))
 
+-- the record at an offset, by the table that reading gives
+unfoldable pub pickedAt : List ℕ → ℕ → List ℕ
+unfolding compares picked recordAtCall
+pickedAt s o =
+    let a = readCall s (replicate 200 0) in
+    plain (then (recordAtCall s (a .memory) o) λ n. done (n ∷ []))
+
+-- the records in a range: three numbers a hit, its record and its span
+abbrev pub hit : ℕ → ℕ → ℕ → Hit
+hit n a e = record { «record» = n; start = a; end = e }
+
+abbrev flatHits : List Hit → List ℕ
+flatHits [] = []
+flatHits (h ∷ hs) = h .«record» ∷ h .start ∷ h .end ∷ flatHits hs
+
+unfoldable pub hitsIn : List ℕ → ℕ → ℕ → List ℕ
+unfolding compares recordsInCall
+hitsIn s from to =
+    let a = readCall s (replicate 200 0) in
+    let b = recordsInCall s (a .memory) from to (replicate 40 (hit 0 0 0)) in
+    plain (then (b .answer) λ n. done (flatHits (take n (b .memory))))
+
 abbrev pub settings : List ℕ → List ℕ → List ℕ → List ℕ → Bool → Settings
 settings ind nl blank sep braces =
     record { indentation = ind; newline = nl; spaceBeforeSuffixComment = blank; keyValueSeparator = sep; alwaysIncludeOuterBraces = braces }
@@ -79,7 +103,7 @@ repeated (suc n) s = s ++ repeated n s
 
 -- ---- rows
 
-infix 50 _hasTokens_ _hasRecords_ _isRefused_ _isWritten_ _unquotesTo_ _isNoString_ _equals_ _differsFrom_
+infix 50 _hasTokens_ _hasRecords_ _isRefused_ _isWritten_ _unquotesTo_ _isNoString_ _equals_ _differsFrom_ _offset_picks_ _offset_refusedBy_ _range_upTo_hits_
 -- the text has these tokens: kind, start and end of each
 abbrev pub _hasTokens_ : String → List ℕ → Type 0
 s hasTokens w = tokensOf (bytes s) ≡ 0 ∷ w
@@ -109,3 +133,14 @@ s equals t = compares (bytes s) (bytes t) ≡ 0 ∷ 1 ∷ []
 
 abbrev pub _differsFrom_ : String → String → Type 0
 s differsFrom t = compares (bytes s) (bytes t) ≡ 0 ∷ 0 ∷ []
+
+-- the offset picks this record, or is refused by this number
+abbrev pub _offset_picks_ : String → ℕ → ℕ → Type 0
+s offset o picks n = pickedAt (bytes s) o ≡ 0 ∷ n ∷ []
+
+abbrev pub _offset_refusedBy_ : String → ℕ → ℕ → Type 0
+s offset o refusedBy n = pickedAt (bytes s) o ≡ n ∷ 0 ∷ 0 ∷ 0 ∷ 0 ∷ []
+
+-- the records in the range: number, start and end of each
+abbrev pub _range_upTo_hits_ : String → ℕ → ℕ → List ℕ → Type 0
+s range from upTo to hits w = hitsIn (bytes s) from to ≡ 0 ∷ w

@@ -12,3 +12,4 @@ pub mod Calls
 pub mod Premises
 pub mod AfternoonEvening
 pub mod LongestWritten
+pub mod Picking
