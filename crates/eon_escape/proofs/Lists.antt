@@ -4,13 +4,12 @@ use mathlib.Core.Bool.{Bool, true, false, _||_}
 use mathlib.Core.List.{List, [], _∷_, _++_}
 use Prim.Native.Nat.{ℕ, suc, _+_, _≤_, _<_}
 use native.Mathlib.Numerals.{add-one}
-use borrow.Author.Tests.{eq-eqb, ne-eqb, eqb-false}
+use borrow.Author.Tests.{eq-eqb, ne-eqb}
 use lib.Dec.{eqb}
 use lib.ListN.{length, getD, drop, drop-of-length-le}
 use lib.Seq.{drop-cons}
 use Rattle.eon_spec.specs.Base.{elem}
 use Rattle.eon_spec.specs.Unquote.{without}
-use Rattle.eon_laws.proofs.Facts.{nor-left, nor-right}
 
 pub or-true : (a b : Bool) → a ≡ true → a || b ≡ true
 or-true a b e = rw e
@@ -32,14 +31,6 @@ module _ (s : List ℕ) (i : ℕ) where
   pub elem-end : (b : ℕ) → length s ≤ i → elem b (drop i s) ≡ false
   elem-end b h = rw (drop-of-length-le s h)
 
-pub elem-append : (x : ℕ) (a b : List ℕ) → elem x (a ++ b) ≡ elem x a || elem x b
-elem-append x [] b = refl
-elem-append x (y ∷ a) b = go (eqb x y) (elem-append x a b)
-  where
-    go : (p : Bool) → elem x (a ++ b) ≡ elem x a || elem x b → p || elem x (a ++ b) ≡ (p || elem x a) || elem x b
-    go true e = refl
-    go false e = e
-
 pub without-append : (x : ℕ) (a b : List ℕ) → without x (a ++ b) ≡ without x a ++ without x b
 without-append x [] b = refl
 without-append x (c ∷ a) b = go (eqb c x) refl (without-append x a b)
@@ -47,8 +38,3 @@ without-append x (c ∷ a) b = go (eqb c x) refl (without-append x a b)
     go : (p : Bool) → eqb c x ≡ p → without x (a ++ b) ≡ without x a ++ without x b → without x (c ∷ (a ++ b)) ≡ without x (c ∷ a) ++ without x b
     go true e r = rw (e, without) r
     go false e r = rw (e, without) (ap (λ (l : List ℕ). c ∷ l) r)
-
-pub without-none : (x : ℕ) (s : List ℕ) → elem x s ≡ false → without x s ≡ s
-without-none x [] e = refl
-without-none x (c ∷ s) e =
-    rw (ne-eqb c x (λ f. eqb-false x c (nor-left (eqb x c) (elem x s) e) (sym f)), without) (ap (λ (r : List ℕ). c ∷ r) (without-none x s (nor-right (eqb x c) (elem x s) e)))

@@ -10,7 +10,8 @@ use lib.Dec.{leb}
 use Rattle.eon_spec.specs.declared.Refusal.{Refusal}
 use Rattle.eon_spec.specs.Calls.{Outcome, done, refusedWith, nowhere, fill, fillBoth}
 
-answers-not : {A B : Type 0} (a : A) (r : Refusal) → done a ≡ refusedWith r → B
+-- an answer is no refusal
+pub answers-not : {A B : Type 0} (a : A) (r : Refusal) → done a ≡ refusedWith r → B
 answers-not a r e = absurd (let z : _≡_ {A = ℕ} 0 1 = cc in omega arith)
 
 pub fill-keeps : {A E : Type 0} (old : List E) (x : Outcome (A × List E)) (r : Refusal) → (fill old x) .answer ≡ refusedWith r → (fill old x) .memory ≡ old

@@ -15,6 +15,7 @@ use Rattle.eon_spec.specs.Tree.{TokenTree}
 use Rattle.eon_spec.specs.Parse.{Parsed, parsed, refusedBy, parse}
 use Rattle.eon_spec.specs.Calls.{Outcome, done, refusedWith, then, nowhere, checked, parsedOutcome, readText, isFinished, readFinished}
 use Rattle.eon_laws.proofs.Facts.{either}
+use Rattle.eon_laws.proofs.Kept.{answers-not}
 use Rattle.eon_laws.proofs.Parse.{Numbered, parse-numbered}
 
 -- "Order: 16, 1, 2, reading (3 to 13), 15, 14": before reading, up to its end, and with a table
@@ -55,20 +56,17 @@ module _ (s : List ℕ) (P : Outcome TokenTree → Type 0) (accepts : isUtf8 s �
 
 -- ---- the numbers
 
-no-refusal : {A B : Type 0} (a : A) (r : Refusal) → done a ≡ refusedWith r → B
-no-refusal a r e = absurd (let z : _≡_ {A = ℕ} 0 1 = cc in omega arith)
-
 module _ (r : Refusal) where
   same-refusal : (q : Refusal) → _≡_ {A = Outcome TokenTree} (refusedWith q) (refusedWith r) → q ≡ r
   same-refusal q e = cc
 
   -- reading a text
   pub text-numbered : (s : List ℕ) → readText s ≡ refusedWith r → OfText r
-  text-numbered s = read-cases s (λ x. x ≡ refusedWith r → OfText r) (λ formed t p e. no-refusal t r e) λ q o e. subst OfText (same-refusal q e) o
+  text-numbered s = read-cases s (λ x. x ≡ refusedWith r → OfText r) (λ formed t p e. answers-not t r e) λ q o e. subst OfText (same-refusal q e) o
 
   -- checking its table
   pub finished-numbered : (s table : List ℕ) → readFinished s table ≡ refusedWith r → OfTable r
-  finished-numbered s table = finished-cases s (λ x. x ≡ refusedWith r → OfTable r) (λ formed t p e. no-refusal t r e) table λ q o e. subst OfTable (same-refusal q e) o
+  finished-numbered s table = finished-cases s (λ x. x ≡ refusedWith r → OfTable r) (λ formed t p e. answers-not t r e) table λ q o e. subst OfTable (same-refusal q e) o
 
   -- a call over a finished table: the table's number, or what the call makes of the tree
   pub call-numbered : {A : Type 0} (s table : List ℕ) (f : TokenTree → Outcome A) → then (readFinished s table) f ≡ refusedWith r → OfTable r ⊎ ((t : TokenTree) × (readFinished s table ≡ done t) × (f t ≡ refusedWith r))

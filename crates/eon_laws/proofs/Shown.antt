@@ -90,7 +90,7 @@ elem-encoded x (c ∷ d) h e = go (eqb x c) refl (elem-encoded x d h)
     go true f rec = clash (there f) (nor-left (elem x (encodeChar c)) (elem x (encode d)) split)
     go false f rec = rw f (rec (nor-right (elem x (encodeChar c)) (elem x (encode d)) split))
 
-without-none : (x : ℕ) (s : List ℕ) → elem x s ≡ false → without x s ≡ s
+pub without-none : (x : ℕ) (s : List ℕ) → elem x s ≡ false → without x s ≡ s
 without-none x [] e = refl
 without-none x (c ∷ s) e =
     let n = nor-left (eqb x c) (elem x s) e in

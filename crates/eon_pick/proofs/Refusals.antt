@@ -12,13 +12,10 @@ use Rattle.eon_spec.specs.Tree.{TokenTree}
 use Rattle.eon_spec.specs.Records.{treeRecords}
 use Rattle.eon_spec.specs.Calls.{Outcome, done, refusedWith, then, nowhere, orRefused, readFinished}
 use Rattle.eon_spec.specs.Pick.{picked, recordAtCall, hits, recordsInCall}
-use Rattle.eon_laws.proofs.Kept.{fill-keeps, fill-refuses}
+use Rattle.eon_laws.proofs.Kept.{answers-not, fill-keeps, fill-refuses}
 use Rattle.eon_laws.proofs.Numbers.{OfTable, call-numbered}
 use Rattle.eon_table.proofs.Finished.{read-finished}
 use Rattle.eon_pick.proofs.Covers.{some-picked, none-picked, empty-none}
-
-answered-not : {A B : Type 0} (a : A) (r : Refusal) → done a ≡ refusedWith r → B
-answered-not a r e = absurd (let z : _≡_ {A = ℕ} 0 1 = cc in omega arith)
 
 module _ (s tb : List ℕ) where
   -- the offset call: 1 to 13, 15, and 27 for the empty text
@@ -28,7 +25,7 @@ module _ (s tb : List ℕ) where
     where
       by-tree : (t : TokenTree) → readFinished s tb ≡ done t → (x : Option ℕ) → picked o (treeRecords t) ≡ x → orRefused 27 x ≡ refusedWith r → (s ≡ []) × (r ≡ nowhere 27)
       by-tree t q none p f = let h = read-finished s tb t q in (none-picked s (h .utf8) t (h .parses) o p, (let z : nowhere 27 ≡ r = cc in sym z))
-      by-tree t q (some n) p f = answered-not n r f
+      by-tree t q (some n) p f = answers-not n r f
 
       go : OfTable r ⊎ ((t : TokenTree) × (readFinished s tb ≡ done t) × (orRefused 27 (picked o (treeRecords t)) ≡ refusedWith r)) → OfTable r ⊎ ((s ≡ []) × (r ≡ nowhere 27))
       go (inl n) = inl n
@@ -62,7 +59,7 @@ module _ (s tb : List ℕ) where
 
       by-tree : OfTable r ⊎ ((t : TokenTree) × (readFinished s tb ≡ done t) × (listing t ≡ refusedWith r)) → OfTable r
       by-tree (inl n) = n
-      by-tree (inr f) = answered-not _ r (f .2)
+      by-tree (inr f) = answers-not _ r (f .2)
 
       go : (then (readFinished s tb) listing ≡ refusedWith r) ⊎ (r ≡ nowhere 14) → OfTable r ⊎ (r ≡ nowhere 14)
       go (inl f) = inl (by-tree (call-numbered r s tb listing f))

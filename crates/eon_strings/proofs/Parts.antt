@@ -11,14 +11,14 @@ use Rattle.eon_spec.specs.Base.{elem, codes}
 use Rattle.eon_spec.specs.Utf8.{decode, encode}
 use Rattle.eon_spec.specs.Unquote.{value, unescape, plain, without, startsWith}
 use Rattle.eon_spec.specs.Calls.{isPart}
-use Rattle.eon_laws.proofs.Facts.{and-left, and-right, nor-left, nor-right}
+use Rattle.eon_laws.proofs.Facts.{and-left, and-right, nor-left, nor-right, elem-append}
+use Rattle.eon_laws.proofs.Shown.{without-none}
 use Rattle.eon_escape.specs.Views.{readsBy, GoodMode}
 use Rattle.eon_unescape.specs.Views.{kept, between, Formed}
 use Rattle.eon_strings.specs.Views.{Inside, ModeIs}
 use Rattle.eon_escape.specs.declared.Mode.{Mode}
 use Rattle.eon_escape.specs.declared.Mode.the-variants.{Literal, Plain, Backslash, Blanks, Unicode, Digits}
 use Rattle.eon_unescape.proofs.Places.{length-between}
-use Rattle.eon_escape.proofs.Lists.{elem-append, without-none}
 use Rattle.eon_unescape.proofs.Runs.{elem-decode, plain-text, encoded}
 
 elem-without : (x y : ℕ) (d : List ℕ) → (x ≡ y → ⊥) → elem x (without y d) ≡ elem x d

@@ -5,7 +5,7 @@ use mathlib.Core.List.{List, [], _∷_, _++_}
 use mathlib.Core.Option.{Option, none, some}
 use Prim.Native.Nat.{ℕ, zero, suc, _+_, _≤_, _<_, pred}
 use native.Mathlib.Nat.{add-zero}
-use native.Mathlib.Decide.{decLt, ℕ-discrete}
+use native.Mathlib.Decide.{decLt}
 use native.Mathlib.Omega.{arith}
 use borrow.Author.Tests.{ne-eqb}
 use lib.Dec.{T, leb, eqb}
@@ -17,7 +17,7 @@ use Rattle.eon_spec.specs.Token.{TokenKind, Invalid, kindNumber, isKind, Token,
 use Rattle.eon_laws.proofs.Token.{tokens-step}
 use Rattle.eon_laws.proofs.Chars.{AllChars}
 use Rattle.eon_laws.proofs.Cut.{found-some}
-use Rattle.eon_laws.proofs.Facts.{eq-of}
+use Rattle.eon_laws.proofs.Facts.{eq-of, eqb-sym}
 use Rattle.eon_token.specs.Machine.{Found, miss, hit, classes, class, goes, accepts, upd, run, spanOf, finish, fromB}
 use Rattle.eon_token.specs.Placed.{placedToken, placedAt, tokensAt}
 use Rattle.eon_token.specs.declared.token_kind.PlacedToken.{PlacedToken}
@@ -97,13 +97,6 @@ left (c ∷ cs) = at (isSpace c) refl (left cs)
     at : (t : Bool) → isSpace c ≡ t → Left (drop (leading cs) cs) → Left (drop (cond t (suc (leading cs)) 0) (c ∷ cs))
     at true e l = l
     at false e l = some-left c cs e
-
-pub eqb-sym : (a b : ℕ) → eqb a b ≡ eqb b a
-eqb-sym a b = at (ℕ-discrete a b)
-  where
-    at : Dec (a ≡ b) → eqb a b ≡ eqb b a
-    at (yes e) = rw e
-    at (no n) = rw (ne-eqb a b n, ne-eqb b a (λ e. n (sym e)))
 
 -- the tokens are those behind it, and a line feed in it shows
 pub skip-space : (at : ℕ) (nl : Bool) (cs : List Character) → AllChars cs

@@ -14,9 +14,10 @@ use Rattle.eon_spec.specs.Base.{elem}
 use Rattle.eon_spec.specs.Utf8.{Character, chars, wellFormedLen, codePoint, decode, encodeChar, encode, isUtf8}
 use Rattle.eon_spec.specs.Unquote.{value, push, unescape, plain, without}
 use Rattle.eon_spec.specs.Unquote as unquoting
-use Rattle.eon_laws.proofs.Facts.{nor-left, nor-right}
+use Rattle.eon_laws.proofs.Facts.{nor-left, nor-right, elem-append}
 use Rattle.eon_laws.proofs.Utf8.{chars-append}
 use Rattle.eon_laws.proofs.Encode.{encode-decode}
+use Rattle.eon_laws.proofs.Shown.{without-none}
 use Rattle.eon_escape.specs.Views.{readsBy}
 use Rattle.eon_unescape.specs.Views.{kept, between, Formed, Reads, RunIs, CopiedIs}
 use Rattle.eon_escape.specs.declared.Mode.{Mode}
@@ -24,7 +25,7 @@ use Rattle.eon_escape.specs.declared.Mode.the-variants.{Literal, Plain}
 use Rattle.eon_escape.proofs.Steps.{plain-on}
 use Rattle.eon_unescape.proofs.Writes.{encode-one, encode-two, encode-three, encode-four, sets-append, reads-push, same-as}
 use Rattle.eon_unescape.proofs.Places.{ascii-cuts, between-last, nothing-between, no-bytes, length-between}
-use Rattle.eon_escape.proofs.Lists.{without-append, elem-append, or-nothing, without-none}
+use Rattle.eon_escape.proofs.Lists.{without-append, or-nothing}
 
 elem-char : (x c : ℕ) → x < 128 → elem x (encodeChar c) ≡ eqb x c
 elem-char x c h = one (decLt c 0x80)

@@ -20,10 +20,14 @@ end-requires : tie.Need-end-requires
 end-requires c κs = search needs
 
 returns : tie.Need-returns
-returns c = rw (le-leb (word (now (c .before .before .before .before .args .table)) (c .before .before .before .before .args .i) 1) (c .before .before .before .before .args .b) (omega (arith, c .before .before .start .ensures .0, c .before .if1 .taken))) (ap (λ (x : ℕ). ltb (c .before .before .before .before .args .b) x) (c .end .ensures .0))
+returns c =
+    let args = c .before .before .before .before .args in
+    rw (le-leb (word (now (args .table)) (args .i) 1) (args .b) (omega (arith, c .before .before .start .ensures .0, c .before .if1 .taken))) (ap (λ (x : ℕ). ltb (args .b) x) (c .end .ensures .0))
 
 returns-2 : tie.Need-returns-2
-returns-2 c = rw (lt-leb (word (now (c .before .before .before .args .table)) (c .before .before .before .args .i) 1) (c .before .before .before .args .b) (omega (arith, c .before .start .ensures .0, c .if1 .left)))
+returns-2 c =
+    let args = c .before .before .before .args in
+    rw (lt-leb (word (now (args .table)) (args .i) 1) (args .b) (omega (arith, c .before .start .ensures .0, c .if1 .left)))
 
 pub holds-spec : {M : Type 1} → statement M
 holds-spec = tie.close (tie.spec start-requires end-requires returns returns-2)

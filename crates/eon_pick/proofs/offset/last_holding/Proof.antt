@@ -19,7 +19,9 @@ abbrev μ-loop : tie.MeasureT-loop
 μ-loop table n b i₀ i = i
 
 loop-holds : tie.Need-loop-holds Inv-loop μ-loop
-loop-holds c = (omega arith, none-yet (now (c .before .args .table)) (c .before .args .n) (c .before .args .b))
+loop-holds c =
+    let args = c .before .args in
+    (omega arith, none-yet (now (args .table)) (args .n) (args .b))
 
 sub-i : tie.Need-sub-i Inv-loop μ-loop
 sub-i c = search needs
@@ -29,24 +31,27 @@ holds-requires c κs = search needs
 
 returns : tie.Need-returns Inv-loop μ-loop
 returns c =
+    let args = c .before .before .before .before .before .args in
     let e : c .before .before .before .loop .i ≡ c .before .before .before .loop .i - 1 + 1 = omega (arith, c .before .before .loop-test .taken) in
-    found (now (c .before .before .before .before .before .args .table)) (c .before .before .before .before .before .args .n) (c .before .before .before .before .before .args .b) (c .before .before .before .loop .i - 1) (omega (arith, c .before .before .loop-test .taken, c .before .before .before .loop .inv .0)) (subst (NoneFrom (now (c .before .before .before .before .before .args .table)) (c .before .before .before .before .before .args .n) (c .before .before .before .before .before .args .b)) e (c .before .before .before .loop .inv .1)) (sym (c .before .holds .ensures) ∙ c .if1 .taken)
+    found (now (args .table)) (args .n) (args .b) (c .before .before .before .loop .i - 1) (omega (arith, c .before .before .loop-test .taken, c .before .before .before .loop .inv .0)) (subst (NoneFrom (now (args .table)) (args .n) (args .b)) e (c .before .before .before .loop .inv .1)) (sym (c .before .holds .ensures) ∙ c .if1 .taken)
 
 loop-less : tie.Need-loop-less Inv-loop μ-loop
 loop-less c = omega (arith, c .before .before .loop-test .taken)
 
 loop-again : tie.Need-loop-again Inv-loop μ-loop
 loop-again c =
+    let args = c .before .before .before .before .before .args in
     let e : c .before .before .before .loop .i ≡ c .before .before .before .loop .i - 1 + 1 = omega (arith, c .before .before .loop-test .taken) in
-    (omega (arith, c .before .before .before .loop .inv .0), none-here (now (c .before .before .before .before .before .args .table)) (c .before .before .before .before .before .args .n) (c .before .before .before .before .before .args .b) (c .before .before .before .loop .i - 1) (omega (arith, c .before .before .loop-test .taken, c .before .before .before .loop .inv .0)) (subst (NoneFrom (now (c .before .before .before .before .before .args .table)) (c .before .before .before .before .before .args .n) (c .before .before .before .before .before .args .b)) e (c .before .before .before .loop .inv .1)) (sym (c .before .holds .ensures) ∙ c .if1 .left))
+    (omega (arith, c .before .before .before .loop .inv .0), none-here (now (args .table)) (args .n) (args .b) (c .before .before .before .loop .i - 1) (omega (arith, c .before .before .loop-test .taken, c .before .before .before .loop .inv .0)) (subst (NoneFrom (now (args .table)) (args .n) (args .b)) e (c .before .before .before .loop .inv .1)) (sym (c .before .holds .ensures) ∙ c .if1 .left))
 
 new-requires : tie.Need-new-requires Inv-loop μ-loop
 new-requires c κs = search needs
 
 returns-2 : tie.Need-returns-2 Inv-loop μ-loop
 returns-2 c =
+    let args = c .before .before .before .before .args in
     let z : c .before .before .loop .i ≡ 0 = omega (arith, c .before .loop-test .left) in
-    ap refusedWith (c .new .ensures) ∙ none-at-all (now (c .before .before .before .before .args .table)) (c .before .before .before .before .args .n) (c .before .before .before .before .args .b) (subst (NoneFrom (now (c .before .before .before .before .args .table)) (c .before .before .before .before .args .n) (c .before .before .before .before .args .b)) z (c .before .before .loop .inv .1))
+    ap refusedWith (c .new .ensures) ∙ none-at-all (now (args .table)) (args .n) (args .b) (subst (NoneFrom (now (args .table)) (args .n) (args .b)) z (c .before .before .loop .inv .1))
 
 pub last-holding-spec : {M : Type 1} → statement M
 last-holding-spec =

@@ -21,7 +21,9 @@ abbrev μ-loop : tie.MeasureT-loop
 μ-loop table n o best₀ i₀ best i = n - i
 
 loop-holds : tie.Need-loop-holds Inv-loop μ-loop
-loop-holds c = (omega arith, none-seen (c .before .args .o) (now (c .before .args .table)))
+loop-holds c =
+    let args = c .before .args in
+    (omega arith, none-seen (args .o) (now (args .table)))
 
 nearest-in-requires : tie.Need-nearest-in-requires Inv-loop μ-loop
 nearest-in-requires c κs = search needs
@@ -36,10 +38,14 @@ loop-less : tie.Need-loop-less Inv-loop μ-loop
 loop-less c = omega arith
 
 loop-again : tie.Need-loop-again Inv-loop μ-loop
-loop-again c = (omega arith, one-more (c .before .before .before .before .before .args .o) (now (c .before .before .before .before .before .args .table)) (c .before .before .before .loop .i) _ _ _ (c .before .before .before .loop .inv .1) (c .before .nearest-in .ensures) (c .nearer-of .ensures))
+loop-again c =
+    let args = c .before .before .before .before .before .args in
+    (omega arith, one-more (args .o) (now (args .table)) (c .before .before .before .loop .i) _ _ _ (c .before .before .before .loop .inv .1) (c .before .nearest-in .ensures) (c .nearer-of .ensures))
 
 returns : tie.Need-returns Inv-loop μ-loop
-returns c = all-seen (c .before .before .before .args .o) (now (c .before .before .before .args .table)) (c .before .loop .i) (c .before .before .before .args .n) _ (c .before .loop .inv .0) (c .loop-test .left) (c .before .loop .inv .1)
+returns c =
+    let args = c .before .before .before .args in
+    all-seen (args .o) (now (args .table)) (c .before .loop .i) (args .n) _ (c .before .loop .inv .0) (c .loop-test .left) (c .before .loop .inv .1)
 
 pub nearest-byte-spec : {M : Type 1} → statement M
 nearest-byte-spec =

@@ -29,10 +29,14 @@ last-holding-requires : tie.Need-last-holding-requires
 last-holding-requires c κs = search needs
 
 returns : tie.Need-returns
-returns c = ap refusedWith (c .new .ensures) ∙ no-byte (c .before .before .before .before .before .args .o) (recordsOf (now (c .before .before .before .before .before .args .table)) 0 (c .before .before .before .before .before .args .n)) (sym (ap nearOf (c .before .enum-told .given .1)) ∙ c .before .before .before .nearest-byte .ensures)
+returns c =
+    let args = c .before .before .before .before .before .args in
+    ap refusedWith (c .new .ensures) ∙ no-byte (args .o) (recordsOf (now (args .table)) 0 (args .n)) (sym (ap nearOf (c .before .enum-told .given .1)) ∙ c .before .before .before .nearest-byte .ensures)
 
 returns-2 : tie.Need-returns-2
-returns-2 c = byte-picks (c .before .before .before .before .before .before .args .o) (recordsOf (now (c .before .before .before .before .before .before .args .table)) 0 (c .before .before .before .before .before .before .args .n)) (c .before .before .b .given .0 .0) _ (sym (ap nearOf (c .before .before .b .given .1)) ∙ c .before .before .before .before .nearest-byte .ensures) (c .last-holding .ensures)
+returns-2 c =
+    let args = c .before .before .before .before .before .before .args in
+    byte-picks (args .o) (recordsOf (now (args .table)) 0 (args .n)) (c .before .before .b .given .0 .0) _ (sym (ap nearOf (c .before .before .b .given .1)) ∙ c .before .before .before .before .nearest-byte .ensures) (c .last-holding .ensures)
 
 pub pick-spec : {M : Type 1} → statement M
 pick-spec =

@@ -26,10 +26,14 @@ pick-requires : tie.Need-pick-requires
 pick-requires c κs = search needs
 
 returns : tie.Need-returns
-returns c = refuses (now (c .before .before .before .before .before .before .args .text)) (now (c .before .before .before .before .before .before .args .table)) (λ t. orRefused 27 (picked (c .before .before .before .before .before .before .args .offset) (treeRecords t))) (c .before .r .given .0 .0) (sym (ap outcomeOf (c .before .r .given .1)) ∙ c .before .before .before .finished .ensures) ∙ record-at-call (now (c .before .before .before .before .before .before .args .text)) (now (c .before .before .before .before .before .before .args .table)) (c .before .before .before .before .before .before .args .offset)
+returns c =
+    let args = c .before .before .before .before .before .before .args in
+    refuses (now (args .text)) (now (args .table)) (λ t. orRefused 27 (picked (args .offset) (treeRecords t))) (c .before .r .given .0 .0) (sym (ap outcomeOf (c .before .r .given .1)) ∙ c .before .before .before .finished .ensures) ∙ record-at-call (now (args .text)) (now (args .table)) (args .offset)
 
 returns-2 : tie.Need-returns-2
-returns-2 c = at-offset (now (c .before .before .before .before .before .before .before .args .text)) (now (c .before .before .before .before .before .before .before .args .table)) (c .before .before .n .given .0 .0) (c .before .before .before .before .before .before .before .args .offset) _ (finished-done (now (c .before .before .before .before .before .before .before .args .text)) (now (c .before .before .before .before .before .before .before .args .table)) (c .before .before .n .given .0 .0) (sym (ap outcomeOf (c .before .before .n .given .1)) ∙ c .before .before .before .before .finished .ensures)) (c .pick .ensures)
+returns-2 c =
+    let args = c .before .before .before .before .before .before .before .args in
+    at-offset (now (args .text)) (now (args .table)) (c .before .before .n .given .0 .0) (args .offset) _ (finished-done (now (args .text)) (now (args .table)) (c .before .before .n .given .0 .0) (sym (ap outcomeOf (c .before .before .n .given .1)) ∙ c .before .before .before .before .finished .ensures)) (c .pick .ensures)
 
 pub record-at-spec : {M : Type 1} → statement M
 record-at-spec =

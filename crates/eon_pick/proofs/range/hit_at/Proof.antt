@@ -16,7 +16,9 @@ end-requires : tie.Need-end-requires
 end-requires c κs = search needs
 
 returns : tie.Need-returns
-returns c = hit-is _ _ _ (recordOf (now (c .before .before .before .args .table)) (c .before .before .before .args .i)) (c .before .start .ensures .0) (c .end .ensures .0)
+returns c =
+    let args = c .before .before .before .args in
+    hit-is _ _ _ (recordOf (now (args .table)) (args .i)) (c .before .start .ensures .0) (c .end .ensures .0)
 
 pub hit-at-spec : {M : Type 1} → statement M
 hit-at-spec = tie.close (tie.spec start-requires end-requires returns)

@@ -28,13 +28,19 @@ new-requires : tie.Need-new-requires
 new-requires c κs = search needs
 
 returns : tie.Need-returns
-returns c = ap refusedWith (c .new .ensures) ∙ too-short (now (c .before .before .before .before .before .before .before .before .before .args .text)) (now (c .before .before .before .before .before .before .before .before .before .args .table)) (c .before .before .before .before .n .given .0 .0) (c .before .before .before .before .before .before .before .before .before .args .from) (c .before .before .before .before .before .before .before .before .before .args .to) (c .before .before .before .before .before .before .before .before .before .args .room) (finished-done (now (c .before .before .before .before .before .before .before .before .before .args .text)) (now (c .before .before .before .before .before .before .before .before .before .args .table)) (c .before .before .before .before .n .given .0 .0) (sym (ap outcomeOf (c .before .before .before .before .n .given .1)) ∙ c .before .before .before .before .before .before .finished .ensures)) _ (c .before .before .count-hits .ensures) (c .before .if1 .taken)
+returns c =
+    let args = c .before .before .before .before .before .before .before .before .before .args in
+    ap refusedWith (c .new .ensures) ∙ too-short (now (args .text)) (now (args .table)) (c .before .before .before .before .n .given .0 .0) (args .from) (args .to) (args .room) (finished-done (now (args .text)) (now (args .table)) (c .before .before .before .before .n .given .0 .0) (sym (ap outcomeOf (c .before .before .before .before .n .given .1)) ∙ c .before .before .before .before .before .before .finished .ensures)) _ (c .before .before .count-hits .ensures) (c .before .if1 .taken)
 
 returns-2 : tie.Need-returns-2
-returns-2 c = refuses-plan (now (c .before .before .before .before .before .before .args .text)) (now (c .before .before .before .before .before .before .args .table)) (c .before .before .before .before .before .before .args .from) (c .before .before .before .before .before .before .args .to) (c .before .before .before .before .before .before .args .room) (c .before .r .given .0 .0) (sym (ap outcomeOf (c .before .r .given .1)) ∙ c .before .before .before .finished .ensures)
+returns-2 c =
+    let args = c .before .before .before .before .before .before .args in
+    refuses-plan (now (args .text)) (now (args .table)) (args .from) (args .to) (args .room) (c .before .r .given .0 .0) (sym (ap outcomeOf (c .before .r .given .1)) ∙ c .before .before .before .finished .ensures)
 
 returns-3 : tie.Need-returns-3
-returns-3 c = has-room (now (c .before .before .before .before .before .before .before .before .args .text)) (now (c .before .before .before .before .before .before .before .before .args .table)) (c .before .before .before .n .given .0 .0) (c .before .before .before .before .before .before .before .before .args .from) (c .before .before .before .before .before .before .before .before .args .to) (c .before .before .before .before .before .before .before .before .args .room) (finished-done (now (c .before .before .before .before .before .before .before .before .args .text)) (now (c .before .before .before .before .before .before .before .before .args .table)) (c .before .before .before .n .given .0 .0) (sym (ap outcomeOf (c .before .before .before .n .given .1)) ∙ c .before .before .before .before .before .finished .ensures)) _ (c .before .count-hits .ensures) (c .if1 .left)
+returns-3 c =
+    let args = c .before .before .before .before .before .before .before .before .args in
+    has-room (now (args .text)) (now (args .table)) (c .before .before .before .n .given .0 .0) (args .from) (args .to) (args .room) (finished-done (now (args .text)) (now (args .table)) (c .before .before .before .n .given .0 .0) (sym (ap outcomeOf (c .before .before .before .n .given .1)) ∙ c .before .before .before .before .before .finished .ensures)) _ (c .before .count-hits .ensures) (c .if1 .left)
 
 pub plan-spec : {M : Type 1} → statement M
 plan-spec =

@@ -24,7 +24,9 @@ lesser-requires : tie.Need-lesser-requires
 lesser-requires c κs = search needs
 
 returns : tie.Need-returns
-returns c = shares _ _ _ _ _ _ (recordOf (now (c .before .before .before .before .before .args .table)) (c .before .before .before .before .before .args .i)) (c .before .before .before .start .ensures .0) (c .before .end .ensures .0) (c .before .before .greater .ensures) (c .lesser .ensures)
+returns c =
+    let args = c .before .before .before .before .before .args in
+    shares _ _ _ _ _ _ (recordOf (now (args .table)) (args .i)) (c .before .before .before .start .ensures .0) (c .before .end .ensures .0) (c .before .before .greater .ensures) (c .lesser .ensures)
 
 pub shares-byte-spec : {M : Type 1} → statement M
 shares-byte-spec =

@@ -6,7 +6,7 @@ use lib.ListN.{getD}
 use denote.Ref.{now}
 use Rattle.eon_token.specs.Place.{lineFeed}
 use Rattle.eon_token.proofs.Places.{feed-none, feed-more}
-use Rattle.eon_token.proofs.Whole.{eqb-sym}
+use Rattle.eon_laws.proofs.Facts.{eqb-sym}
 use Rattle.eon_token.proofs.cursor.line_feed.Statement.{statement}
 use Rattle.eon_token.proofs.cursor.line_feed.Tie as tie
 
