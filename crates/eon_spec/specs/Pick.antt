@@ -11,7 +11,7 @@ use Rattle.eon_spec.specs.Calls.{Outcome, done, then, orRefused, AfterIn
 
 -- ---- the offset call
 
--- a record's span holds the byte
+-- "whose span holds it": from its start on, its end not counted
 abbrev pub holdsByte : ℕ → Record → Bool
 holdsByte b r = leb (r .start) b && ltb b (r .end)
 
@@ -31,6 +31,7 @@ prefers b a = ltb b a
 abbrev pub wins : ℕ → ℕ → ℕ → Bool
 wins o b a = ltb (distance o b) (distance o a) || (eqb (distance o b) (distance o a) && prefers b a)
 
+-- the winner of what one record has and what the later ones have
 abbrev pub nearer : ℕ → Option ℕ → Option ℕ → Option ℕ
 nearer o none y = y
 nearer o (some a) none = some a
@@ -41,7 +42,7 @@ abbrev pub nearest : ℕ → List Record → Option ℕ
 nearest o [] = none
 nearest o (r ∷ rs) = nearer o (nearestIn o r) (nearest o rs)
 
--- one of the later records, or this one if it passes
+-- a later record, if there is one; or this one, number n, if it passes
 abbrev pub orThis : Option ℕ → Bool → ℕ → Option ℕ
 orThis none b n = cond b (some n) none
 orThis (some m) b n = some m
@@ -51,6 +52,7 @@ abbrev pub highest : ℕ → ℕ → List Record → Option ℕ
 highest b n [] = none
 highest b n (r ∷ rs) = orThis (highest b (suc n) rs) (holdsByte b r) n
 
+-- the byte first, then the record
 abbrev pub pickedBy : Option ℕ → List Record → Option ℕ
 pickedBy none rs = none
 pickedBy (some b) rs = highest b 0 rs
@@ -58,13 +60,13 @@ pickedBy (some b) rs = highest b 0 rs
 unfoldable pub picked : ℕ → List Record → Option ℕ
 picked o rs = pickedBy (nearest o rs) rs
 
--- 27, directly after 15: "a table whose records cover no byte"
+-- "Number 27 is for a table whose records cover no byte, in the offset call only, directly after 15"
 unfoldable pub recordAtCall : List ℕ → List ℕ → ℕ → Outcome ℕ
 recordAtCall s table o = then (readFinished s table) λ t. orRefused 27 (picked o (treeRecords t))
 
 -- ---- the range call
 
--- a record "that shares a byte with the range", whose end is not counted
+-- "every record that shares a byte with the range", "its end not counted"
 abbrev pub sharesByte : ℕ → ℕ → Record → Bool
 sharesByte from to r = ltb (max (r .start) from) (min (r .end) to)
 
@@ -82,7 +84,7 @@ abbrev pub hits : ℕ → ℕ → ℕ → List Record → List Hit
 hits from to n [] = []
 hits from to n (r ∷ rs) = hitThen (sharesByte from to r) (hitOf n r) (hits from to (suc n) rs)
 
--- how many, and the list; "entries past the hits stay. Too short a list is 14 and stays untouched"
+-- "It answers how many; entries past the hits stay. Too short a list is 14 and stays untouched"
 unfoldable pub recordsInCall : List ℕ → List ℕ → ℕ → ℕ → List Hit → AfterIn Hit ℕ
 recordsInCall s table from to list =
     fill list (then (readFinished s table) λ t. let hs = hits from to 0 (treeRecords t) in done (length hs, hs))
