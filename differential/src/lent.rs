@@ -31,6 +31,17 @@ impl Word for u32 {
     }
 }
 
+impl Word for eon::Hit {
+    fn pattern(at: usize) -> Self {
+        let word = |part: usize| 0xA5C3_96F0 ^ (3 * at + part);
+        Self {
+            record: word(0),
+            start: word(1),
+            end: word(2),
+        }
+    }
+}
+
 /// A slice of a pattern.
 pub struct Lent<T> {
     words: Vec<T>,

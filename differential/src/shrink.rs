@@ -84,11 +84,16 @@ fn shortest<C: Parts>(case: &mut C, parts: &[usize]) -> usize {
 
 fn without<C: Parts>(case: &C, parts: &[usize], run: Range<usize>) -> C {
     let mut case = case.clone();
-    for (place, part) in case.parts().into_iter().enumerate() {
-        if let Part::Bytes(text) = part
-            && parts.contains(&place)
-        {
-            text.drain(run.clone());
+    for (at, part) in case.parts().into_iter().enumerate() {
+        match part {
+            Part::Bytes(text) if parts.contains(&at) => {
+                text.drain(run.clone());
+            }
+            // What stood behind the run still does, what stood in it stands where it was.
+            Part::Place(place) if *place > run.start => {
+                *place -= run.len().min(*place - run.start);
+            }
+            _ => {}
         }
     }
     case
@@ -99,6 +104,7 @@ mod tests {
     use super::*;
     use oracle::Case;
     use oracle::models::compare::Pair;
+    use oracle::models::pick::Click;
     use oracle::models::{Handed, Table, Text};
 
     fn shrunk(text: &[u8], differs: impl Fn(&[u8]) -> bool) -> Vec<u8> {
@@ -149,6 +155,26 @@ mod tests {
             _ => false,
         });
         assert_eq!(small, Case::Compare(b"a".to_vec(), b"c".to_vec()));
+    }
+
+    #[test]
+    fn places_move_with_the_text() {
+        let click = Click {
+            handed: Handed::new("[12, 'ab', x, 'cd']", Table::Finished),
+            offset: 11,
+        };
+        let small = shrink(click, |click| {
+            click.handed.text.get(click.offset) == Some(&b'x')
+        });
+        assert_eq!(small.handed, Handed::new("x", Table::Finished));
+        assert_eq!(small.offset, 0);
+        let click = Click {
+            handed: Handed::new("[12, 'ab', x, 'cd']", Table::Finished),
+            offset: usize::MAX,
+        };
+        let small = shrink(click, |click| click.offset > click.handed.text.len());
+        assert_eq!(small.handed, Handed::new("", Table::Finished));
+        assert_eq!(small.offset, 1);
     }
 
     #[test]

@@ -13,21 +13,21 @@ const PLAN: Plan = Plan {
     behind: Behind::Guard,
 };
 
-/// A model of comparison with another answer, held to the library's comparison.
-macro_rules! other_comparison {
-    ($name:ident, $expected:expr $(, $allows:item)?) => {
+/// A model with other answers than the right one, held to the library's call.
+macro_rules! other {
+    ($right:ident, $name:ident, $expected:expr $(, $allows:item)?) => {
         struct $name;
 
         impl Model for $name {
             const NAME: &'static str = stringify!($name);
-            type Case = Pair;
-            type Answer = bool;
+            type Case = <$right as Model>::Case;
+            type Answer = <$right as Model>::Answer;
 
-            fn case(rng: &mut Rng) -> Pair {
-                Compare::case(rng)
+            fn case(rng: &mut Rng) -> Self::Case {
+                $right::case(rng)
             }
 
-            fn expected(case: &Pair) -> Result<bool, Refusal> {
+            fn expected(case: &Self::Case) -> Result<Self::Answer, Refusal> {
                 $expected(case)
             }
 
@@ -35,26 +35,31 @@ macro_rules! other_comparison {
         }
 
         impl Calls for $name {
-            fn ask(case: &Pair, behind: Behind) -> Result<Answered<bool>, String> {
-                Compare::ask(case, behind)
+            fn ask(case: &Self::Case, behind: Behind) -> Result<Answered<Self::Answer>, String> {
+                $right::ask(case, behind)
             }
         }
     };
 }
 
-other_comparison!(AlwaysEqual, |case| Compare::expected(case).map(|_| true));
-other_comparison!(SecondFirst, |case: &Pair| {
+#[path = "requests/pick.rs"]
+mod pick;
+
+other!(Compare, AlwaysEqual, |case| Compare::expected(case)
+    .map(|_| true));
+other!(Compare, SecondFirst, |case: &Pair| {
     case.second.finished()?;
     Compare::expected(case)
 });
-other_comparison!(Unplaced, |case| Compare::expected(case)
+other!(Compare, Unplaced, |case| Compare::expected(case)
     .map_err(|refusal| Refusal { end: 0, ..refusal }));
-other_comparison!(Panicking, |case| {
+other!(Compare, Panicking, |case| {
     let answer = Compare::expected(case);
     assert!(answer != Ok(true), "equal trees");
     answer
 });
-other_comparison!(
+other!(
+    Compare,
     Free,
     |case| Compare::expected(case).map(|equal| !equal),
     fn allows(_: &Pair, expected: &bool, answer: &bool) -> bool {

@@ -3,6 +3,7 @@
 //! A request adds a file here with its calls, a `mod` line and a line of [`REQUESTS`].
 
 mod compare;
+mod pick;
 
 use crate::caught;
 use crate::check::{Number, refusal_of};
@@ -14,6 +15,8 @@ use oracle::models::{self, Handed, Model};
 pub const REQUESTS: &[Request] = &[
     // one line each
     Request::of::<models::compare::Compare>(),
+    Request::of::<models::pick::RecordAt>(),
+    Request::of::<models::pick::RecordsIn>(),
 ];
 
 /// What the library answers to a model's case.

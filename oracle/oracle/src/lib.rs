@@ -20,7 +20,7 @@ mod rows;
 mod token_kind;
 
 pub use crate::{
-    agree::{Agreement, Difference, agree},
+    agree::{Agreement, Asked, Difference, agree},
     calls::{Options, compare, format, identifier, read, tokens, unquote},
     lent::Lent,
     protocol::{Answer, Case, answer},

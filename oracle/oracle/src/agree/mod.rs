@@ -1,12 +1,16 @@
-//! Rows of a proof file held against the original: what they say is its answer, and not ours.
+//! Rows of a proof file held against the original: what they say is its answer, and not ours. Rows
+//! of calls that it does not have are held against the models of these.
 
 mod parse;
 
-use crate::protocol::{Answer, Case};
-use parse::Fact;
+use crate::models::Model;
+use crate::models::pick::{Hit, RecordAt, RecordsIn};
+use crate::protocol::Answer;
+use crate::refusal::{Refusal, word};
+use parse::{Fact, Question};
 use std::fmt;
 
-/// How the rows of a file stand to the original.
+/// How the rows of a file stand to the original and the models.
 #[derive(Debug, Default, PartialEq, Eq)]
 pub struct Agreement {
     pub agreeing: usize,
@@ -15,15 +19,23 @@ pub struct Agreement {
     pub unread: Vec<String>,
 }
 
-/// A row that says otherwise than the original: both answers in numbers.
+/// A row that says otherwise than the original or a model: both answers in numbers.
 #[derive(Debug, PartialEq, Eq)]
 pub struct Difference {
     pub row: String,
     pub said: Vec<u32>,
-    pub original: Vec<u32>,
+    pub asked: Asked,
+    pub answer: Vec<u32>,
 }
 
-/// Asks the original what each row of a file says.
+/// Who was asked.
+#[derive(Clone, Copy, Debug, PartialEq, Eq)]
+pub enum Asked {
+    Original,
+    Model,
+}
+
+/// Asks the original, or a model, what each row of a file says.
 pub fn agree(file: &str) -> Agreement {
     let mut agreement = Agreement::default();
     for (name, statement) in rows(file) {
@@ -39,9 +51,9 @@ impl Agreement {
     fn hold(&mut self, name: &str, facts: Vec<Fact>) {
         let several = facts.len() > 1;
         for (at, fact) in facts.into_iter().enumerate() {
-            let mut original = numbers(&fact.case);
-            original.truncate(fact.shown);
-            if original == fact.numbers {
+            let (asked, mut answer) = fact.question.answer();
+            answer.truncate(fact.shown);
+            if answer == fact.numbers {
                 self.agreeing += 1;
             } else {
                 let row = if several {
@@ -52,7 +64,8 @@ impl Agreement {
                 self.differing.push(Difference {
                     row,
                     said: fact.numbers,
-                    original,
+                    asked,
+                    answer,
                 });
             }
         }
@@ -67,21 +80,29 @@ impl fmt::Display for Agreement {
             "{} rows agree, {differing} differ, {unread} are not read",
             self.agreeing
         )?;
-        for Difference {
-            row,
-            said,
-            original,
-        } in &self.differing
-        {
-            write!(
-                f,
-                "\n  {row}\n    the row:      {said:?}\n    the original: {original:?}"
-            )?;
+        for difference in &self.differing {
+            difference.fmt(f)?;
         }
         if unread > 0 {
             write!(f, "\n  not read: {}", self.unread.join(" "))?;
         }
         Ok(())
+    }
+}
+
+impl fmt::Display for Difference {
+    fn fmt(&self, f: &mut fmt::Formatter<'_>) -> fmt::Result {
+        let Self {
+            row, said, answer, ..
+        } = self;
+        let asked = match self.asked {
+            Asked::Original => "the original:",
+            Asked::Model => "the model:   ",
+        };
+        write!(
+            f,
+            "\n  {row}\n    the row:      {said:?}\n    {asked} {answer:?}"
+        )
     }
 }
 
@@ -113,15 +134,40 @@ fn start(line: &str) -> Option<(&str, String)> {
     (is_name && is_statement).then(|| (name, statement.to_owned()))
 }
 
-/// 0 and the answer, or the five numbers of a refusal.
-fn numbers(case: &Case) -> Vec<u32> {
-    let answer = match case.answer() {
-        Answer::Words(words) => words,
-        Answer::Bytes(bytes) => bytes.into_iter().map(u32::from).collect(),
-        Answer::Truth(truth) => vec![u32::from(truth)],
-        Answer::Refused(refusal) => return refusal.numbers().to_vec(),
-    };
-    [vec![0], answer].concat()
+impl Question {
+    /// Who was asked, and 0 and the answer, or the five numbers of a refusal.
+    fn answer(&self) -> (Asked, Vec<u32>) {
+        let (asked, answer) = match self {
+            Self::Original(case) => (Asked::Original, in_words(case.answer())),
+            Self::RecordAt(click) => {
+                let record = RecordAt::expected(click);
+                (Asked::Model, record.map(|record| vec![word(record)]))
+            }
+            Self::RecordsIn(selection) => {
+                let hits = RecordsIn::expected(selection);
+                let words = |hits: Vec<Hit>| hits.iter().flat_map(hit_words).collect();
+                (Asked::Model, hits.map(words))
+            }
+        };
+        let numbers = match answer {
+            Ok(words) => [vec![0], words].concat(),
+            Err(refusal) => refusal.numbers().to_vec(),
+        };
+        (asked, numbers)
+    }
+}
+
+fn in_words(answer: Answer) -> Result<Vec<u32>, Refusal> {
+    match answer {
+        Answer::Words(words) => Ok(words),
+        Answer::Bytes(bytes) => Ok(bytes.into_iter().map(u32::from).collect()),
+        Answer::Truth(truth) => Ok(vec![u32::from(truth)]),
+        Answer::Refused(refusal) => Err(refusal),
+    }
+}
+
+fn hit_words(hit: &Hit) -> [u32; 3] {
+    [hit.record, hit.start, hit.end].map(word)
 }
 
 #[cfg(test)]
@@ -166,6 +212,15 @@ unfolding compares bytes
 same = refl
 ";
 
+    fn difference(row: &str, said: &[u32], asked: Asked, answer: &[u32]) -> Difference {
+        Difference {
+            row: row.to_owned(),
+            said: said.to_vec(),
+            asked,
+            answer: answer.to_vec(),
+        }
+    }
+
     #[test]
     fn rows_of_a_file() {
         let names: Vec<&str> = rows(FILE).iter().map(|(name, _)| *name).collect();
@@ -177,11 +232,7 @@ same = refl
         let agreement = agree(FILE);
         assert_eq!(agreement.agreeing, 3);
         assert_eq!(agreement.unread, ["named", "bare"]);
-        let difference = |row: &str, said: &[u32], original: &[u32]| Difference {
-            row: row.to_owned(),
-            said: said.to_vec(),
-            original: original.to_vec(),
-        };
+        let difference = |row, said, answer| difference(row, said, Asked::Original, answer);
         assert_eq!(
             agreement.differing,
             [
@@ -189,6 +240,64 @@ same = refl
                 difference("same", &[0, 1], &[0, 0]),
             ]
         );
+    }
+
+    const PICKED: &str = "\
+midway : \"// c\\n1\" offset 4 picks 0
+unfolding picks bytes
+midway = refl
+
+beyond : \"1 2\" offset 18446744073709551615 picks 2
+unfolding picks bytes
+beyond = refl
+
+later : \"// c\\n1\" offset 4 picks 1
+unfolding picks bytes
+later = refl
+
+no-byte : \"\" offset 3 refusedBy 27
+unfolding picks bytes
+no-byte = refl
+
+blank : \" \" offset 3 refusedBy 27
+unfolding picks bytes
+blank = refl
+
+two : \"// c\\n1\" range 3 upTo 6 hits (0 ∷ 0 ∷ 4 ∷ 1 ∷ 5 ∷ 6 ∷ [])
+unfolding finds bytes
+two = refl
+
+none : \"1\" range 1 upTo 9 hits []
+unfolding finds bytes
+none = refl
+
+touched :
+    (\"1\" range 0 upTo 1 hits (0 ∷ 0 ∷ 1 ∷ []))
+    × (\"[1]\" range 0 upTo 1 hits (0 ∷ 0 ∷ 3 ∷ 1 ∷ 1 ∷ 2 ∷ []))
+unfolding finds bytes
+touched = (refl, refl)
+
+unread : \"1\" range 0 upTo one hits []
+unfolding finds bytes
+unread = refl
+";
+
+    #[test]
+    fn rows_against_the_models() {
+        let agreement = agree(PICKED);
+        assert_eq!(agreement.agreeing, 6);
+        assert_eq!(agreement.unread, ["unread"]);
+        let difference = |row, said, answer| difference(row, said, Asked::Model, answer);
+        assert_eq!(
+            agreement.differing,
+            [
+                difference("later", &[0, 1], &[0, 0]),
+                difference("blank", &[27, 0, 0, 0, 0], &[0, 0]),
+                difference("touched 2", &[0, 0, 0, 3, 1, 1, 2], &[0, 0, 0, 3]),
+            ]
+        );
+        let later = "\n  later\n    the row:      [0, 1]\n    the model:    [0, 0]\n";
+        assert!(agreement.to_string().contains(later), "{agreement}");
     }
 
     #[test]

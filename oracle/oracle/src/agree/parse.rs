@@ -1,22 +1,33 @@
-//! The statement of a row, by recursive descent. The words are those of `proofs/Computing.antt`.
+//! The statement of a row, by recursive descent. The words are those of `proofs/Computing.antt` and
+//! of the requests' rows.
 
 use crate::calls::Options;
+use crate::models::pick::{Click, Selection};
+use crate::models::{Handed, Table};
 use crate::protocol::Case;
 use std::iter::repeat_n;
 
-/// What a row says: the first numbers of the answer to a case, as many as are shown. The numbers
+/// What a row says: the first numbers of the answer to a question, as many as are shown. The numbers
 /// are 0 and the answer, or the five of a refusal.
 #[derive(Debug, PartialEq, Eq)]
 pub struct Fact {
-    pub case: Case,
+    pub question: Question,
     pub shown: usize,
     pub numbers: Vec<u32>,
 }
 
+/// Put to the original, or to the model of a call that it does not have.
+#[derive(Debug, PartialEq, Eq)]
+pub enum Question {
+    Original(Case),
+    RecordAt(Click),
+    RecordsIn(Selection),
+}
+
 impl Fact {
-    fn whole(case: Case, numbers: Vec<u32>) -> Self {
+    fn whole(question: Question, numbers: Vec<u32>) -> Self {
         Self {
-            case,
+            question,
             shown: usize::MAX,
             numbers,
         }
@@ -36,7 +47,7 @@ enum Token<'s> {
     Open,
     Close,
     Text(String),
-    Number(u32),
+    Number(usize),
     Word(&'s str),
 }
 
@@ -73,9 +84,9 @@ fn tokens(statement: &str) -> Option<Vec<Token<'_>>> {
     Some(tokens)
 }
 
-fn number(word: &str) -> Option<u32> {
+fn number(word: &str) -> Option<usize> {
     match word.strip_prefix("0x") {
-        Some(digits) => u32::from_str_radix(digits, 16).ok(),
+        Some(digits) => usize::from_str_radix(digits, 16).ok(),
         None => word.parse().ok(),
     }
 }
@@ -148,15 +159,16 @@ impl<'t> Parser<'t> {
         }
     }
 
-    fn number(&mut self) -> Option<u32> {
+    fn count(&mut self) -> Option<usize> {
         match self.next()? {
             Token::Number(number) => Some(*number),
             _ => None,
         }
     }
 
-    fn count(&mut self) -> Option<usize> {
-        usize::try_from(self.number()?).ok()
+    /// A number that an answer can have.
+    fn number(&mut self) -> Option<u32> {
+        u32::try_from(self.count()?).ok()
     }
 
     fn text(&mut self) -> Option<Vec<u8>> {
@@ -196,12 +208,15 @@ impl<'t> Parser<'t> {
                 self.expect(&Token::Close)?;
                 let numbers = self.equal()?;
                 Some(Fact {
-                    case,
+                    question: Question::Original(case),
                     shown,
                     numbers,
                 })
             }
-            _ => Some(Fact::whole(self.call()?, self.equal()?)),
+            _ => {
+                let question = Question::Original(self.call()?);
+                Some(Fact::whole(question, self.equal()?))
+            }
         }
     }
 
@@ -213,12 +228,49 @@ impl<'t> Parser<'t> {
             "isRefused" => (Case::Read(text), self.list()?),
             "isWritten" => (Case::Format(text, Options::default()), self.answer()?),
             "unquotesTo" => (Case::Unquote(text), self.answer()?),
-            "isNoString" => (Case::Unquote(text), vec![self.number()?, 0, 0, 0, 0]),
+            "isNoString" => (Case::Unquote(text), self.unplaced()?),
             "equals" => (Case::Compare(text, self.text()?), vec![0, 1]),
             "differsFrom" => (Case::Compare(text, self.text()?), vec![0, 0]),
+            "offset" => return self.record_at(text),
+            "range" => return self.records_in(text),
             _ => return None,
         };
-        Some(Fact::whole(case, numbers))
+        Some(Fact::whole(Question::Original(case), numbers))
+    }
+
+    /// An offset, and the record that it picks or the refusal.
+    fn record_at(&mut self, text: Vec<u8>) -> Option<Fact> {
+        let click = Click {
+            handed: Handed::new(text, Table::Finished),
+            offset: self.count()?,
+        };
+        let numbers = match self.word()? {
+            "picks" => accepted(vec![self.number()?]),
+            "refusedBy" => self.unplaced()?,
+            _ => return None,
+        };
+        Some(Fact::whole(Question::RecordAt(click), numbers))
+    }
+
+    /// A range, and its hits in a list that has room for all: three numbers each.
+    fn records_in(&mut self, text: Vec<u8>) -> Option<Fact> {
+        let start = self.count()?;
+        self.expect(&Token::Word("upTo"))?;
+        let end = self.count()?;
+        self.expect(&Token::Word("hits"))?;
+        let selection = Selection {
+            handed: Handed::new(text, Table::Finished),
+            start,
+            end,
+            room: usize::MAX,
+        };
+        let numbers = accepted(self.list()?);
+        Some(Fact::whole(Question::RecordsIn(selection), numbers))
+    }
+
+    /// A refusal by its number, which has no place.
+    fn unplaced(&mut self) -> Option<Vec<u32>> {
+        Some(vec![self.number()?, 0, 0, 0, 0])
     }
 
     fn call(&mut self) -> Option<Case> {
@@ -273,10 +325,9 @@ impl<'t> Parser<'t> {
     fn list(&mut self) -> Option<Vec<u32>> {
         let mut list = Vec::new();
         loop {
-            while let Some(Token::Number(number)) = self.tokens.first() {
-                self.next();
+            while let Some(Token::Number(_)) = self.tokens.first() {
+                list.push(self.number()?);
                 self.expect(&Token::Word("∷"))?;
-                list.push(*number);
             }
             list.extend(self.part()?);
             if !self.takes(&Token::Word("++")) {
@@ -331,7 +382,7 @@ mod tests {
     }
 
     fn whole(case: Case, numbers: &[u32]) -> Fact {
-        Fact::whole(case, numbers.to_vec())
+        Fact::whole(Question::Original(case), numbers.to_vec())
     }
 
     fn written(text: &[u8]) -> Case {
@@ -373,6 +424,42 @@ mod tests {
     }
 
     #[test]
+    fn each_word_of_a_requests_row() {
+        let at = |offset, numbers: &[u32]| {
+            let handed = Handed::new("a", Table::Finished);
+            let click = Click { handed, offset };
+            Fact::whole(Question::RecordAt(click), numbers.to_vec())
+        };
+        let within = |start, end, numbers: &[u32]| {
+            let selection = Selection {
+                handed: Handed::new("a", Table::Finished),
+                start,
+                end,
+                room: usize::MAX,
+            };
+            Fact::whole(Question::RecordsIn(selection), numbers.to_vec())
+        };
+        for (statement, expected) in [
+            ("\"a\" offset 7 picks 1", at(7, &[0, 1])),
+            (
+                "\"a\" offset 18446744073709551615 picks 0",
+                at(usize::MAX, &[0, 0]),
+            ),
+            ("\"a\" offset 0 refusedBy 27", at(0, &[27, 0, 0, 0, 0])),
+            (
+                "\"a\" range 2 upTo 5 hits (1 ∷ 2 ∷ 3 ∷ [])",
+                within(2, 5, &[0, 1, 2, 3]),
+            ),
+            (
+                "\"a\" range 0 upTo 18446744073709551615 hits []",
+                within(0, usize::MAX, &[0]),
+            ),
+        ] {
+            assert_eq!(fact(statement), expected, "{statement}");
+        }
+    }
+
+    #[test]
     fn each_call() {
         let text = || b"a".to_vec();
         for (call, case) in [
@@ -403,7 +490,8 @@ mod tests {
     #[test]
     fn the_first_numbers() {
         let fact = fact("take 2 (reads (bytes \"a\")) ≡ 0 ∷ 1 ∷ []");
-        assert_eq!(fact.case, Case::Read(b"a".to_vec()));
+        let read = Case::Read(b"a".to_vec());
+        assert_eq!(fact.question, Question::Original(read));
         assert_eq!((fact.shown, fact.numbers), (2, vec![0, 1]));
     }
 
@@ -440,8 +528,8 @@ mod tests {
             ("-- (a) ≡ []", "-- (a) ≡ []".as_bytes()),
             (r"\\n", b"\\n"),
         ] {
-            let expected = Case::Unquote(bytes.to_vec());
-            assert_eq!(fact(&format!("\"{text}\" isNoString 18")).case, expected);
+            let expected = whole(Case::Unquote(bytes.to_vec()), &[18, 0, 0, 0, 0]);
+            assert_eq!(fact(&format!("\"{text}\" isNoString 18")), expected);
         }
     }
 
@@ -481,6 +569,18 @@ mod tests {
             "map ident (bytes \"a\" ∷ []) ≡ replicate 1 (0 ∷ [])",
             "writesBy (settings [] [] [] [] maybe) [] ≡ 0 ∷ []",
             "reads [] ≡ 4294967296 ∷ []",
+            "reads [] ≡ 18446744073709551616 ∷ []",
+            "\"a\" isNoString 4294967296",
+            "\"a\" offset 1",
+            "\"a\" offset picks 1",
+            "\"a\" offset 18446744073709551616 picks 1",
+            "\"a\" offset 1 picks []",
+            "\"a\" offset 1 hits []",
+            "\"a\" range 1 upTo 2",
+            "\"a\" range 1 2 hits []",
+            "\"a\" range 1 upTo 2 picks 1",
+            "\"a\" range 1 upTo 2 hits 1",
+            "\"a\" range 1 upTo 2 hits (1 ∷ 2 ∷ 3)",
             "(\"a\" equals \"a\") ×",
         ] {
             assert_eq!(facts(statement), None, "{statement}");

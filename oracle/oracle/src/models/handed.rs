@@ -6,7 +6,6 @@ use super::table::Table;
 use super::texts;
 use crate::calls;
 use crate::generate::Rng;
-use crate::records::WORDS;
 use crate::refusal::{NO_SPACE, Refusal, STALE};
 use std::fmt;
 use std::ops::{Deref, DerefMut};
@@ -61,10 +60,7 @@ impl Handed {
     /// The records of the text, once its table is found to be finished.
     pub fn finished(&self) -> Result<Vec<Record<'_>>, Refusal> {
         let words = finished(&self.text, &self.words())?;
-        let records = words.chunks_exact(WORDS);
-        Ok(records
-            .map(|words| Record::new(&self.text, words))
-            .collect())
+        Ok(Record::all(&self.text, &words))
     }
 
     pub fn parts(&mut self) -> [Part<'_>; 2] {

@@ -8,6 +8,7 @@
 pub mod compare;
 mod handed;
 mod parts;
+pub mod pick;
 mod record;
 mod table;
 mod texts;

@@ -1,6 +1,6 @@
 //! Records by their parts.
 
-use crate::records::{LIST, MAP, PREFIX};
+use crate::records::{LIST, MAP, PREFIX, WORDS};
 
 /// A record of document 01, with the bytes that are its text: a variant's name, none for lists and
 /// maps.
@@ -31,6 +31,12 @@ impl<'t> Record<'t> {
         }
     }
 
+    /// All of a table.
+    pub fn all(text: &'t [u8], words: &[u32]) -> Vec<Self> {
+        let records = words.chunks_exact(WORDS);
+        records.map(|words| Self::new(text, words)).collect()
+    }
+
     fn is_comment(&self) -> bool {
         self.kind >= PREFIX
     }
@@ -39,6 +45,17 @@ impl<'t> Record<'t> {
     pub fn root(records: &[Self]) -> usize {
         let root = records.iter().position(|record| !record.is_comment());
         root.expect("a tree has a root")
+    }
+
+    /// The records that stand in no other: the root with its comments.
+    pub fn outermost(records: &[Self]) -> Vec<Self> {
+        let mut outermost = Vec::new();
+        let mut at = 0;
+        while let Some(&record) = records.get(at) {
+            outermost.push(record);
+            at += record.size;
+        }
+        outermost
     }
 
     /// The numbers of the values in a container, keys and values by turns in a map. Comments are left

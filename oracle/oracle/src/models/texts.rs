@@ -50,7 +50,7 @@ pub fn text(rng: &mut Rng) -> Vec<u8> {
             long::text(length, rng)
         }
         1..30 => vec![b' '; MAX_TEXT + rng.between(1, 2)],
-        30..300 => rng.pick(&SHEET).to_vec(),
+        30..300 => sheet(rng),
         300..500 => short::text(rng),
         500..700 => wild::soup(rng),
         700..900 => wild::damaged(rng),
@@ -58,6 +58,70 @@ pub fn text(rng: &mut Rng) -> Vec<u8> {
         _ => tree::text(rng).into_bytes(),
     }
 }
+
+/// A short text, refused by any of 2, 3 and 5 to 13 or not.
+pub fn sheet(rng: &mut Rng) -> Vec<u8> {
+    rng.pick(&SHEET).to_vec()
+}
+
+/// Values that stand alone, with others in them and without.
+const VALUES: [&str; 12] = [
+    "1",
+    "key",
+    "'s'",
+    "\"é\"",
+    "'''\n'''",
+    "[]",
+    "{ }",
+    "[1 2]",
+    "[[1] // c\n]",
+    "{a: 1}",
+    "\"A\"()",
+    "\"A\" (1 [2])",
+];
+
+/// One value with comments around it. Blanks between them, a comma and comments that are lost belong
+/// to no record.
+pub fn sole(rng: &mut Rng) -> Vec<u8> {
+    let mut text = blank(rng);
+    for _ in 0..rng.below(3) {
+        text += &comment(rng);
+    }
+    text += rng.pick(&VALUES);
+    if rng.chance(25) {
+        // A suffix before the comma does not count.
+        if rng.chance(50) {
+            text += &(within_line(rng) + "// lost\n");
+        }
+        text += &(blank(rng) + ",");
+    }
+    if rng.chance(60) {
+        text += &(within_line(rng) + &comment(rng));
+    }
+    while rng.chance(30) {
+        text += &comment(rng);
+    }
+    text.into_bytes()
+}
+
+/// A comment with its line feed, and what is skipped behind it.
+fn comment(rng: &mut Rng) -> String {
+    format!("{}\n{}", rng.pick(&tree::COMMENTS), blank(rng))
+}
+
+/// Anything that is skipped, of any few bytes.
+pub fn blank(rng: &mut Rng) -> String {
+    let width = rng.below(WIDEST);
+    rng.join(&[" ", "\t", "\r", "\u{c}", "\n"], width)
+}
+
+/// Anything that is skipped within a line.
+fn within_line(rng: &mut Rng) -> String {
+    let width = rng.below(WIDEST);
+    rng.join(&[" ", "\t", "\r", "\u{c}"], width)
+}
+
+const WIDEST: usize = 8;
 
 /// A size of lent memory for an answer that needs so much: enough, just enough or too little.
 pub fn room(needed: usize, rng: &mut Rng) -> usize {
@@ -67,5 +131,34 @@ pub fn room(needed: usize, rng: &mut Rng) -> usize {
         1 | 2 => needed.saturating_sub(1),
         3..6 => needed,
         _ => needed + rng.between(1, SPARE),
+    }
+}
+
+#[cfg(test)]
+mod tests {
+    use super::*;
+    use crate::models::{Handed, Record, Table};
+    use std::collections::BTreeSet;
+
+    #[test]
+    fn sole_values_are_read_and_stand_apart() {
+        let mut widths: [BTreeSet<usize>; 3] = Default::default();
+        let mut rng = Rng::new(1);
+        for _ in 0..2000 {
+            let handed = Handed::new(sole(&mut rng), Table::Finished);
+            let records = handed.finished().expect("is read");
+            let outer = Record::outermost(&records);
+            widths[0].insert(outer[0].start);
+            let gaps = outer.windows(2).map(|pair| pair[1].start - pair[0].end);
+            widths[1].extend(gaps);
+            let end = outer.last().map_or(0, |last| last.end);
+            widths[2].insert(handed.text.len() - end);
+        }
+        for widths in widths {
+            assert!(
+                (0..WIDEST).all(|width| widths.contains(&width)),
+                "{widths:?}"
+            );
+        }
     }
 }
