@@ -1,6 +1,6 @@
 -- Which numbers refuse a text, alone and with its table: 1 and 2 before it is read, 3 to 13 in reading, 15 behind them. What a text gives,
 -- by cases: a refusal by one of these, or what is known of an accepted text.
-use mathlib.Core.Path.{_≡_, refl, sym, subst}
+use mathlib.Core.Path.{_≡_, refl, subst}
 use mathlib.Core.Logic.{_⊎_, inl, inr}
 use mathlib.Core.Bool.{true, false}
 use mathlib.Core.List.{List}

@@ -6,18 +6,16 @@ use mathlib.Core.List.{List, []}
 use Prim.Native.Nat.{ℕ, suc, _*_, _≤_}
 use native.Mathlib.Omega.{arith}
 use lib.ListN.{length}
-use lib.Dec.{ltb}
 use borrow.Author.Tests.{le-leb}
 use Rattle.eon_spec.specs.declared.Refusal.{Refusal}
 use Rattle.eon_spec.specs.declared.Which.the-variants.{Quoted, Scratch}
 use Rattle.eon_spec.specs.Utf8.{isUtf8, wellFormedLen, wellFormedFrom, charLen}
 use Rattle.eon_spec.specs.Tree.{TokenTree}
-use Rattle.eon_spec.specs.Token.{tokens}
-use Rattle.eon_spec.specs.Parse.{Parsed, parsed, refusedBy, parse}
+use Rattle.eon_spec.specs.Parse.{parsed, parse}
 use Rattle.eon_spec.specs.Records.{treeRecords, words}
 use Rattle.eon_spec.specs.Layout.{defaults, defaultOptions, format}
 use Rattle.eon_spec.specs.Unquote.{Unescaped, value, fault, unquote}
-use Rattle.eon_spec.specs.Calls.{Outcome, done, refusedWith, then, after, nowhere, checked, parsedOutcome, readText, written, fill, fillBoth, readCall, isFinished, readFinished, goodSettings, checkedSettings, formatCall, reformatCall, Part, partOf, isPart, opening, unescapedOutcome, handedBack, unquoteCall}
+use Rattle.eon_spec.specs.Calls.{Outcome, done, refusedWith, then, after, nowhere, checked, readText, written, fill, fillBoth, readCall, readFinished, goodSettings, checkedSettings, formatCall, reformatCall, Part, partOf, isPart, opening, unescapedOutcome, handedBack, unquoteCall}
 use Rattle.eon_laws.proofs.Numbers.{OfText, OfTable, checked-cases, read-cases, finished-cases}
 use Rattle.eon_laws.proofs.Records.{words-length}
 use Rattle.eon_laws.proofs.Spans.{few-records}

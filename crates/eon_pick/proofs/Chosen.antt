@@ -6,11 +6,10 @@ use mathlib.Core.Option.{Option, none, some}
 use Prim.Native.Nat.{ℕ, pred, _+_, _-_, _≤_, _<_, min, max}
 use native.Mathlib.Nat.{zero-add}
 use native.Mathlib.Omega.{arith}
-use lib.ListN.{length}
-use lib.Dec.{ltb, eqb}
+use lib.Dec.{eqb}
 use borrow.Author.Tests.{lt-ltb, le-ltb, eq-eqb, ne-eqb}
 use Rattle.eon_spec.specs.Records.{Record, treeRecords}
-use Rattle.eon_spec.specs.Calls.{Outcome, done, refusedWith, then, nowhere, orRefused, readFinished}
+use Rattle.eon_spec.specs.Calls.{Outcome, refusedWith, then, nowhere, orRefused, readFinished}
 use Rattle.eon_spec.specs.Pick.{distance, prefers, wins, nearestIn, nearer, nearest, highest, pickedBy, picked, recordAtCall}
 use Rattle.eon_pick.proofs.Nearest.{nearest-next}
 use Rattle.eon_table.specs.Words.{recordOf, recordsOf}

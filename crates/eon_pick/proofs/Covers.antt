@@ -1,22 +1,21 @@
 -- Which bytes the records of a text cover: no byte beyond the text, and one at least where the text has one. So 27 is for the empty text.
-use mathlib.Core.Path.{_≡_, refl, _∙_, ap, subst}
-use mathlib.Core.Bool.{Bool, true, false, _&&_, _||_}
+use mathlib.Core.Path.{_≡_, refl, sym, _∙_, ap, subst}
+use mathlib.Core.Bool.{Bool, true, false, _||_, or-assoc}
 use mathlib.Core.List.{List, [], _∷_, _++_}
 use mathlib.Core.Option.{Option, none, some}
 use Prim.Native.Nat.{ℕ, suc, _<_}
 use native.Mathlib.Omega.{arith}
 use lib.ListN.{length}
-use lib.Dec.{ltb, leb}
 use Rattle.eon_spec.specs.Utf8.{isUtf8}
 use Rattle.eon_spec.specs.RecordKind.{IDENTIFIER, NUMBER, STRING, LIST, MAP, VARIANT, PREFIX_COMMENT, CLOSING_COMMENT}
 use Rattle.eon_spec.specs.Tree.{Span, TokenTree, TokenValue, tree, identifier, number, quotedString, listOf, mapOf, variantOf}
 use Rattle.eon_spec.specs.Parse.{parsed, parse}
 use Rattle.eon_spec.specs.Records.{Record, recordAt, leaf, comments, suffix, around, treeRecords, valueRecords, treesRecords, pairsRecords}
 use Rattle.eon_spec.specs.Pick.{holdsByte, picked}
-use Rattle.eon_laws.proofs.Facts.{clash, false-of}
+use Rattle.eon_laws.proofs.Facts.{clash}
 use Rattle.eon_laws.proofs.Spans.{HasByte, tree-fits, tree-has-byte}
 use Rattle.eon_table.proofs.Spans.{AllSpanned, tree-spanned}
-use Rattle.eon_pick.proofs.Nearest.{covered, or-cases, held, holds-of, Answered, picked-is}
+use Rattle.eon_pick.proofs.Nearest.{covered, or-cases, or-left, held, holds-of, Answered, picked-is}
 
 -- ---- no byte beyond the text
 
@@ -28,17 +27,10 @@ within s b (r ∷ rs) h e = or-cases (holdsByte b r) (covered b rs) e (λ k. ome
 
 covered-append : (b : ℕ) (a c : List Record) → covered b (a ++ c) ≡ covered b a || covered b c
 covered-append b [] c = refl
-covered-append b (r ∷ a) c = ap (λ (x : Bool). holdsByte b r || x) (covered-append b a c) ∙ or-assoc (holdsByte b r) (covered b a) (covered b c)
-  where
-    or-assoc : (p q r : Bool) → p || (q || r) ≡ (p || q) || r
-    or-assoc true q r = refl
-    or-assoc false q r = refl
-
-or-first : (x y : Bool) → x ≡ true → x || y ≡ true
-or-first x y e = rw e
+covered-append b (r ∷ a) c = ap (λ (x : Bool). holdsByte b r || x) (covered-append b a c) ∙ sym (or-assoc (holdsByte b r) (covered b a) (covered b c))
 
 first-covered : (r : Record) (rs : List Record) → r .start < r .end → covered (r .start) (r ∷ rs) ≡ true
-first-covered r rs h = or-first (holdsByte (r .start) r) (covered (r .start) rs) (holds-of (r .start) r (omega arith) h)
+first-covered r rs h = or-left (holdsByte (r .start) r) (covered (r .start) rs) (holds-of (r .start) r (omega arith) h)
 
 leaf-covers : (k : ℕ) (s : Span) → s .start < s .end → covered (s .start) (leaf k s ∷ []) ≡ true
 leaf-covers k s h = first-covered (leaf k s) [] h

@@ -1,12 +1,12 @@
 -- Laws of the hits: one record more, none left, how many, what a run of stores leaves, and the call from its steps.
-use Prim.Native.Nat.{ℕ, zero, suc, _+_, _-_, _≤_, _<_, min, max}
+use Prim.Native.Nat.{ℕ, suc, _+_, _-_, _≤_, _<_, min, max}
 use native.Mathlib.Numerals.{add-one}
 use native.Mathlib.Omega.{arith}
 use mathlib.Core.Path.{_≡_, refl, sym, ap, ap₂, _∙_}
 use mathlib.Core.Bool.{Bool, true, false, cond}
 use mathlib.Core.List.{List, [], _∷_, _++_}
 use lib.Dec.{ltb, leb}
-use lib.ListN.{length, take, drop, set, length-set}
+use lib.ListN.{length, drop, set, length-set}
 use lib.Seq.{sets, take-all, set-out}
 use borrow.Author.Tests.{le-leb, lt-leb}
 use Rattle.eon_spec.specs.declared.Hit.{Hit}
@@ -17,7 +17,7 @@ use Rattle.eon_spec.specs.Calls.{Outcome, done, refusedWith, then, nowhere, aft
 use Rattle.eon_spec.specs.Pick.{sharesByte, hitOf, hitThen, hits, recordsInCall}
 use Rattle.eon_laws.proofs.Facts.{le-of}
 use Rattle.eon_table.specs.Words.{recordOf, recordsOf}
-use Rattle.eon_table.specs.Finished.{Finished, SomeFinished}
+use Rattle.eon_table.specs.Finished.{SomeFinished}
 use Rattle.eon_table.proofs.Table.{records-first, records-none, records-all}
 use Rattle.eon_table.proofs.Finished.{answers, refuses, read-finished}
 use Rattle.eon_pick.specs.Listed.{allHits, hitsFrom, Next, over, planCall, walkedOf, answeredBy}

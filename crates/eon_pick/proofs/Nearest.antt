@@ -6,9 +6,10 @@ use mathlib.Core.List.{List, [], _∷_, _++_}
 use mathlib.Core.Option.{Option, none, some}
 use Prim.Native.Nat.{ℕ, zero, suc, pred, _+_, _-_, min, max, _≤_, _<_}
 use native.Mathlib.Omega.{arith}
-use lib.Dec.{ltb, leb, eqb, le→leb, lt→ltb}
+use lib.Dec.{ltb, leb, eqb}
+use borrow.Author.Tests.{le-leb, lt-ltb, eq-eqb}
 use Rattle.eon_spec.specs.Records.{Record}
-use Rattle.eon_laws.proofs.Facts.{clash, and-left, and-right, nor-left, nor-right, true-of, false-of, le-of, lt-of, eq-of, eqb-same, le-of-not}
+use Rattle.eon_laws.proofs.Facts.{clash, and-left, and-right, nor-left, nor-right, false-of, le-of, lt-of, eq-of, le-of-not}
 use Rattle.eon_spec.specs.Pick.{holdsByte, distance, nearestIn, prefers, wins, nearer, nearest, orThis, highest, pickedBy, picked}
 
 -- some record holds the byte
@@ -49,9 +50,6 @@ apart m n h f = omega arith
 farther : (m n x y : ℕ) → m < n → m + m + min 1 x ≤ n + n + min 1 y
 farther m n x y h = omega arith
 
-eqb-of : (m n : ℕ) → m ≡ n → eqb m n ≡ true
-eqb-of m n e = ap (λ (x : ℕ). eqb x n) e ∙ eqb-same n
-
 loses-more : (o b a : ℕ) → wins o b a ≡ false → rank o a ≤ rank o b
 loses-more o b a e = go d refl (nor-right (ltb (distance o b) (distance o a)) (d && prefers b a) e) (le-of-not (distance o b) (distance o a) (nor-left (ltb (distance o b) (distance o a)) (d && prefers b a) e))
   where
@@ -60,7 +58,7 @@ loses-more o b a e = go d refl (nor-right (ltb (distance o b) (distance o a)) (d
 
     go : (x : Bool) → eqb (distance o b) (distance o a) ≡ x → x && prefers b a ≡ false → distance o a ≤ distance o b → rank o a ≤ rank o b
     go true q f p = not-preferred o b a (eq-of (distance o b) (distance o a) q) f
-    go false q f p = farther (distance o a) (distance o b) (side o a) (side o b) (apart (distance o a) (distance o b) p λ z. clash (eqb-of (distance o b) (distance o a) (sym z)) q)
+    go false q f p = farther (distance o a) (distance o b) (side o a) (side o b) (apart (distance o a) (distance o b) p λ z. clash (eq-eqb (distance o b) (distance o a) (sym z)) q)
 
 more-loses : (o b a : ℕ) → rank o a ≤ rank o b → wins o b a ≡ false
 more-loses o b a h = false-of (wins o b a) λ e. omega (arith, wins-less o b a e)
@@ -71,7 +69,7 @@ pub held : (b : ℕ) (r : Record) → holdsByte b r ≡ true → (r .start ≤ b
 held b r e = (le-of (r .start) b (and-left (leb (r .start) b) (ltb b (r .end)) e), lt-of b (r .end) (and-right (leb (r .start) b) (ltb b (r .end)) e))
 
 pub holds-of : (b : ℕ) (r : Record) → r .start ≤ b → b < r .end → holdsByte b r ≡ true
-holds-of b r g h = both-true (leb (r .start) b) (ltb b (r .end)) (true-of (leb (r .start) b) (le→leb (r .start) b g)) (true-of (ltb b (r .end)) (lt→ltb b (r .end) h))
+holds-of b r g h = both-true (leb (r .start) b) (ltb b (r .end)) (le-leb (r .start) b g) (lt-ltb b (r .end) h)
   where
     both-true : (x y : Bool) → x ≡ true → y ≡ true → x && y ≡ true
     both-true x y p q = rw (p, q)
@@ -147,7 +145,7 @@ or-true : (x y : Bool) → y ≡ true → x || y ≡ true
 or-true true y e = refl
 or-true false y e = e
 
-or-left : (x y : Bool) → x ≡ true → x || y ≡ true
+pub or-left : (x y : Bool) → x ≡ true → x || y ≡ true
 or-left x y e = rw e
 
 or-none : (x y : Bool) → x ≡ false → y ≡ false → x || y ≡ false
@@ -197,7 +195,7 @@ none-nearer o b c rs n h = le-of-not (distance o c) (distance o b) (nor-left (lt
 
 pub tie-earlier : (o b c : ℕ) (rs : List Record) → Nearest o b rs → covered c rs ≡ true → distance o c ≡ distance o b → b ≤ c
 tie-earlier o b c rs n h e =
-    le-of-not c b (go (eqb (distance o c) (distance o b)) (eqb-of (distance o c) (distance o b) e) (nor-right (ltb (distance o c) (distance o b)) (eqb (distance o c) (distance o b) && prefers c b) (n .none-wins c h)))
+    le-of-not c b (go (eqb (distance o c) (distance o b)) (eq-eqb (distance o c) (distance o b) e) (nor-right (ltb (distance o c) (distance o b)) (eqb (distance o c) (distance o b) && prefers c b) (n .none-wins c h)))
   where
     go : (x : Bool) → x ≡ true → x && prefers c b ≡ false → prefers c b ≡ false
     go true p f = f

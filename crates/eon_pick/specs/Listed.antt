@@ -1,5 +1,5 @@
 -- The range call in its steps: the hits of a table's first records, what a list holds after they were stored, and the plan.
-use Prim.Native.Nat.{ℕ, _+_, _-_, _≤_, _<_}
+use Prim.Native.Nat.{ℕ, _-_, _≤_, _<_}
 use mathlib.Core.Path.{_≡_}
 use mathlib.Core.Bool.{true, cond}
 use mathlib.Core.List.{List, _++_}

@@ -52,7 +52,8 @@ abbrev pub highest : ℕ → ℕ → List Record → Option ℕ
 highest b n [] = none
 highest b n (r ∷ rs) = orThis (highest b (suc n) rs) (holdsByte b r) n
 
--- the byte first, then the record
+-- "Given a byte offset, answer the highest-numbered record whose span holds it. If none does, take the nearest byte that a record covers";
+-- "The answer is the highest-numbered record that holds that byte": the byte first, then the record. "An offset beyond the text is allowed"
 abbrev pub pickedBy : Option ℕ → List Record → Option ℕ
 pickedBy none rs = none
 pickedBy (some b) rs = highest b 0 rs
@@ -79,7 +80,7 @@ abbrev pub hitThen : Bool → Hit → List Hit → List Hit
 hitThen true h hs = h ∷ hs
 hitThen false h hs = hs
 
--- in table order; the first record is number n
+-- "in table order"; the first record is number n
 abbrev pub hits : ℕ → ℕ → ℕ → List Record → List Hit
 hits from to n [] = []
 hits from to n (r ∷ rs) = hitThen (sharesByte from to r) (hitOf n r) (hits from to (suc n) rs)
