@@ -1,4 +1,6 @@
 // Speaks the line protocol of `oracle answer` (oracle/README.md), so that the original's answers can be compared with ours.
+#![tactic(auto)]
+
 mod layout;
 mod lent;
 mod tree;

@@ -1,4 +1,6 @@
 // The public calls for programs in other languages: numbers and slices alone, and the answer in eight words that the caller lends.
+#![tactic(auto)]
+
 ghost use Rattle.std.specs.Prelude.{◌≡◌, length};
 ghost use Rattle.eon_spec.specs.Unquote.{is_valid_identifier};
 ghost use Rattle.eon_spec.specs.Calls.{after, outcome_of, read_call, format_call, reformat_call, compared_outcome, compare_call, unquoted_outcome, unquote_call, part_of, show_call};

@@ -1,4 +1,6 @@
 // What one character of a string does, by where it stands: escapes, code points, blanks behind a line feed.
+#![tactic(auto)]
+
 ghost use Rattle.std.specs.Prelude.{◌≡◌, List, ◌∷◌, ℕ, ◌<◌};
 ghost use Rattle.eon_spec.specs.Base.{elem};
 ghost use Rattle.eon_spec.specs.Unquote.{lookup, escapes, hex_digit, white_space};

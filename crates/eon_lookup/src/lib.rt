@@ -1,4 +1,6 @@
 // Many paths looked up in one walk over an event's finished table.
+#![tactic(auto)]
+
 ghost use Rattle.std.specs.Prelude.{◌≡◌};
 ghost use Rattle.eon_spec.specs.Tree.{TokenTree};
 ghost use Rattle.eon_spec.specs.Calls.{done, refused_with, read_finished};

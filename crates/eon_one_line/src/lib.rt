@@ -1,4 +1,6 @@
 // Values on one line: which are (format.rs, should_format_values_on_one_line), and how they are written.
+#![tactic(auto)]
+
 ghost use Rattle.std.specs.Prelude.{◌≡◌, [], ◌∷◌, ◌++◌, ℕ, ◌+◌, ◌-◌, ◌<◌, ◌≤◌, eqb, length, true, false, cond};
 ghost use Rattle.eon_spec.specs.Tree.{TokenValue};
 ghost use Rattle.eon_spec.specs.RecordKind.{NUMBER};

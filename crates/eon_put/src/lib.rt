@@ -1,4 +1,6 @@
 // Bytes put at a position of a lent output, or only counted: what layout writes by.
+#![tactic(auto)]
+
 ghost use Rattle.std.specs.Prelude.{◌≡◌, [], ◌∷◌, ◌+◌, ◌-◌, ◌<◌, ◌≤◌, length, take, drop};
 ghost use Rattle.std.proofs.lemmas.List.Edits.{sets};
 ghost use Rattle.eon_spec.specs.Layout.{setting_max, add_indent, text_of, settings_of};

@@ -1,5 +1,7 @@
 // A reader of tokens: it holds a reference to the text, and the place of its next byte. The functions over it are thin:
 // the work is done by `start` and `token_at`, on a plain slice.
+#![tactic(auto)]
+
 ghost use Rattle.std.specs.Prelude.{◌≡◌, true};
 ghost use Rattle.eon_spec.specs.Utf8.{is_utf8};
 ghost use Rattle.eon_spec.specs.Token.{tokens};

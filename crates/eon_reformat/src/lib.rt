@@ -1,5 +1,7 @@
 // Reading and layout in one call. The lent table must stay as it is until the output is known to have room, so the text is read into a
 // table of the function's own.
+#![tactic(auto)]
+
 ghost use Rattle.std.specs.Prelude.{◌≡◌, ◌++◌, true, ◌+◌, ◌*◌, ◌≤◌, length, take, drop};
 ghost use Rattle.eon_spec.specs.Tree.{TokenTree};
 ghost use Rattle.eon_spec.specs.Records.{tree_records};

@@ -1,1 +1,3 @@
 // Reading undoes layout.
+#![tactic(auto)]
+

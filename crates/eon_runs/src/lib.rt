@@ -1,4 +1,6 @@
 // Calls made in a row, one on what another wrote: the runs of demand 3, and what it says of them.
+#![tactic(auto)]
+
 ghost use Rattle.std.specs.Prelude.{◌≡◌, List, ℕ, ◌≤◌, length, take};
 ghost use Rattle.eon_spec.specs.Tree.{TokenTree};
 ghost use Rattle.eon_spec.specs.Calls.{after, outcome_of};

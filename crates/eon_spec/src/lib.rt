@@ -1,4 +1,6 @@
 // The types that the public calls take and answer. What the calls do with them is said in specs/.
+#![tactic(auto)]
+
 ghost use Rattle.std.specs.Prelude.{◌≡◌};
 ghost use Rattle.eon_spec.specs.Parse.{refusal};
 ghost use Rattle.eon_spec.specs.Calls.{place};

@@ -1,4 +1,6 @@
 // Strings: taking the quotes off, showing the value, and the identifier test (strings.rs).
+#![tactic(auto)]
+
 pub mod identifier;
 pub mod strings;
 

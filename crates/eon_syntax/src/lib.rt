@@ -1,5 +1,7 @@
 // The public calls. Each takes any bytes, tables and settings; each contract is an equation with a definition of eon_spec, but that a lookup
 // may name any of several values that a path reaches (`IsLookup`).
+#![tactic(auto)]
+
 ghost use Rattle.std.specs.Prelude.{◌≡◌};
 ghost use Rattle.eon_spec.specs.Unquote.{is_valid_identifier};
 ghost use Rattle.eon_spec.specs.Calls.{after, outcome_of, read_call, format_call, after_both, reformat_call, compared_outcome, compare_call, unquoted_outcome, unquote_call, part_of, show_call, shown_place};

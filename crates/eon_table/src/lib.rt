@@ -10,4 +10,6 @@
 //   `record_text` returns it and its items from the next record up to `behind`. In a loop over items, `item` and `entry` say what
 //   stands where `more` is true, and `no_item` and `no-entry` that nothing is left where it is false.
 // A function that calls itself says `SomeValue` in its `requires` and `(v) → ValueAt .. v → ..` in its `ensures`.
+#![tactic(auto)]
+
 pub mod record;

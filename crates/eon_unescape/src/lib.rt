@@ -1,4 +1,6 @@
 // The pass over the characters of a string, which writes its value.
+#![tactic(auto)]
+
 ghost use Rattle.std.specs.Prelude.{◌≡◌, length, drop, set, ◌+◌, ◌/◌, ◌%◌, ◌≤◌, ◌<◌};
 ghost use Rattle.std.proofs.lemmas.List.Edits.{sets};
 ghost use Rattle.eon_spec.specs.Utf8.{encode_char};

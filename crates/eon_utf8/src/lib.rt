@@ -1,4 +1,6 @@
 // UTF-8 by Table 3-7 of the Unicode standard.
+#![tactic(auto)]
+
 ghost use Rattle.std.specs.Prelude.{◌≡◌, ◌∷◌, [], ◌+◌, ◌-◌, ◌*◌, ◌≤◌, ◌<◌, length, drop, replicate};
 ghost use Rattle.std.proofs.Math.Option.{some};
 ghost use Rattle.eon_spec.specs.Base.{within};

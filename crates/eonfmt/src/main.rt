@@ -1,5 +1,7 @@
 // Lays out the Eon text on standard input under the default settings, or says why it is refused: number, start, end. Input
 // that could not be read whole is not laid out: what is missing might be a bye.
+#![tactic(auto)]
+
 use eon_spec::{Answer, Refusal};
 
 // A byte more than a text has at most, so that a full buffer is refused by 1.
