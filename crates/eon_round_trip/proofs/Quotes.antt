@@ -87,8 +87,8 @@ module _ (Q : Char) where
   long_step past c = past
 
   long_steps : {d : Regex} → Long d → (s : List Character) → Long (derivs d s)
-  long_steps l [] = l
-  long_steps l (c ∷ s) = long_steps (long_step l c) s
+  long_steps {d = d} l [] = l
+  long_steps {d = d} l (c ∷ s) = long_steps {d = deriv d c} (long_step l c) s
 
   long_nullable : {d : Regex} → Long d → nullable d ≡ true → d ≡ empty
   long_nullable in_it e = clash e refl
@@ -205,8 +205,8 @@ module _ (Q : Char) where
   plain_step past c = past
 
   plain_steps : {d : Regex} → Plain d → (s : List Character) → Plain (derivs d s)
-  plain_steps p [] = p
-  plain_steps p (c ∷ s) = plain_steps (plain_step p c) s
+  plain_steps {d = d} p [] = p
+  plain_steps {d = d} p (c ∷ s) = plain_steps {d = deriv d c} (plain_step p c) s
 
   plain_nullable : {d : Regex} → Plain d → nullable d ≡ true → d ≡ empty
   plain_nullable in_it e = clash e refl
@@ -248,8 +248,8 @@ escaping_step closed c = past
 escaping_step past c = past
 
 escaping_steps : {d : Regex} → Escaping d → (s : List Character) → Escaping (derivs d s)
-escaping_steps p [] = p
-escaping_steps p (c ∷ s) = escaping_steps (escaping_step p c) s
+escaping_steps {d = d} p [] = p
+escaping_steps {d = d} p (c ∷ s) = escaping_steps {d = deriv d c} (escaping_step p c) s
 
 escaping_nullable : {d : Regex} → Escaping d → nullable d ≡ true → d ≡ empty
 escaping_nullable in_it e = clash e refl
