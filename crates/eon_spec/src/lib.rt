@@ -96,14 +96,14 @@ pub enum Unquoted {
 pub const SETTING_MAX: usize = 16;
 
 // A setting's text is the first `len` of its bytes.
-#[derive(Drop)]
+#[derive(Clone, Copy)]
 pub struct Setting {
     pub bytes: [u8; SETTING_MAX],
     pub len: usize,
 }
 
 // How to lay a document out.
-#[derive(Drop)]
+#[derive(Clone, Copy)]
 pub struct FormatOptions {
     pub indentation: Setting,
     pub newline: Setting,
