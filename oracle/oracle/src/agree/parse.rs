@@ -653,7 +653,7 @@ mod tests {
             "reads bytes \"a\" ≡ 1 ∷ []",
             "reads (256 ∷ []) ≡ 1 ∷ []",
             "reads (encode (97 ∷ [])) ≡ 1 ∷ []",
-            "readText (bytes \"a\") ≡ refusedWith (nowhere 14)",
+            "read_text (bytes \"a\") ≡ refused_with (nowhere 14)",
             "map ident (bytes \"a\" ∷ []) ≡ replicate 1 (0 ∷ [])",
             "writes_by (settings [] [] [] [] maybe) [] ≡ 0 ∷ []",
             "reads [] ≡ 4294967296 ∷ []",
