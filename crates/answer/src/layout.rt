@@ -2,6 +2,8 @@
 use answer_line::hex::{self, Taken};
 use answer_line::{input, line, print};
 use eon_spec::{Answer, FormatOptions, Setting};
+use std::io;
+use std::io::Write;
 
 // A setting keeps its length if it is longer than its bytes have room for: that is refused as 16.
 fn setting(word: &[u8]) -> Setting {
@@ -11,10 +13,10 @@ fn setting(word: &[u8]) -> Setting {
 }
 
 fn is_flag(word: &[u8]) -> bool {
-    if check::same(word, b"0") {
+    if word == b"0".as_slice() {
         return true;
     }
-    check::same(word, b"1")
+    word == b"1".as_slice()
 }
 
 // The words 2 to 5 stand for bytes, and the word 6 is 0 or 1.
@@ -39,7 +41,7 @@ fn options(line: &[u8]) -> FormatOptions {
     let newline = setting(line::word(line, 3));
     let space_before_suffix_comment = setting(line::word(line, 4));
     let key_value_separator = setting(line::word(line, 5));
-    let always_include_outer_braces = check::same(line::word(line, 6), b"1");
+    let always_include_outer_braces = line::word(line, 6) == b"1".as_slice();
     FormatOptions {
         indentation,
         newline,
@@ -50,10 +52,10 @@ fn options(line: &[u8]) -> FormatOptions {
 }
 
 // The bytes that were written, or the refusal.
-pub fn put_written(written: Answer, room: &[u8], out: &mut [u8], at: usize) -> usize {
+pub fn put_written(written: Answer, room: &[u8], out: &mut impl Write) -> io::Result<()> {
     match written {
-        Answer::Done(len) => print::put_bytes(out, at, input::part(room, 0, len)),
-        Answer::Refused(refusal) => print::put_refusal(out, at, refusal),
+        Answer::Done(len) => print::put_bytes(out, input::part(room, 0, len)),
+        Answer::Refused(refusal) => print::put_refusal(out, refusal),
     }
 }
 
@@ -63,12 +65,11 @@ fn put_layout(
     table: &mut [u32],
     options: FormatOptions,
     room: &mut [u8],
-    out: &mut [u8],
-    at: usize,
-) -> usize {
+    out: &mut impl Write,
+) -> io::Result<()> {
     eon_syntax::read(text, table);
     let r = eon_syntax::format(text, table, options, room);
-    put_written(r, room, out, at)
+    put_written(r, room, out)
 }
 
 pub fn format(
@@ -76,14 +77,13 @@ pub fn format(
     text: &mut [u8],
     table: &mut [u32],
     room: &mut [u8],
-    out: &mut [u8],
-    at: usize,
-) -> usize {
+    out: &mut impl Write,
+) -> io::Result<()> {
     let Taken::Bytes(n) = hex::take(line, 1, text) else {
-        return print::bad_line(out, at);
+        return print::bad_line(out);
     };
     if !is_options(line) {
-        return print::bad_line(out, at);
+        return print::bad_line(out);
     }
-    put_layout(input::part(text, 0, n), table, options(line), room, out, at)
+    put_layout(input::part(text, 0, n), table, options(line), room, out)
 }

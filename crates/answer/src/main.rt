@@ -7,7 +7,10 @@ mod tree;
 mod verbs;
 
 use answer_line::input::Held;
+use answer_line::print::Kept;
 use answer_line::{input, line, print};
+use std::io;
+use std::io::{Read, Write};
 
 // The verbs that take one text.
 fn one_text(
@@ -15,22 +18,21 @@ fn one_text(
     text: &mut [u8],
     room: &mut [u8],
     table: &mut [u32],
-    out: &mut [u8],
-    at: usize,
-) -> usize {
+    out: &mut impl Write,
+) -> io::Result<()> {
     if line::asks(line, b"unquote") {
-        return verbs::unquote(line, text, room, out, at);
+        return verbs::unquote(line, text, room, out);
     }
     if line::asks(line, b"read") {
-        return tree::read(line, text, table, out, at);
+        return tree::read(line, text, table, out);
     }
     if line::asks(line, b"identifier") {
-        return verbs::identifier(line, text, out, at);
+        return verbs::identifier(line, text, out);
     }
     if line::asks(line, b"tokens") {
-        return verbs::tokens(line, text, out, at);
+        return verbs::tokens(line, text, out);
     }
-    print::bad_line(out, at)
+    print::bad_line(out)
 }
 
 // The verbs that say how much is lent.
@@ -39,27 +41,26 @@ fn lent_memory(
     text: &mut [u8],
     room: &mut [u8],
     table: &mut [u32],
-    out: &mut [u8],
-    at: usize,
-) -> usize {
+    out: &mut impl Write,
+) -> io::Result<()> {
     let n = line::words(line);
     if n == 3 {
         if line::asks(line, b"read") {
-            return lent::read(line, text, table, out, at);
+            return lent::read(line, text, table, out);
         }
         if line::asks(line, b"unquote") {
-            return lent::unquote(line, text, room, out, at);
+            return lent::unquote(line, text, room, out);
         }
     }
     if n == 4 {
         if line::asks(line, b"layout") {
-            return lent::layout(line, text, table, room, out, at);
+            return lent::layout(line, text, table, room, out);
         }
         if line::asks(line, b"reformat") {
-            return lent::reformat(line, text, table, room, out, at);
+            return lent::reformat(line, text, table, room, out);
         }
     }
-    print::bad_line(out, at)
+    print::bad_line(out)
 }
 
 // A line is answered by its verb, which takes so many words.
@@ -69,78 +70,71 @@ fn answer(
     room: &mut [u8],
     table: &mut [u32],
     other: &mut [u32],
-    out: &mut [u8],
-    at: usize,
-) -> usize {
+    out: &mut impl Write,
+) -> io::Result<()> {
     let n = line::words(line);
     if n == 2 {
-        return one_text(line, text, room, table, out, at);
+        return one_text(line, text, room, table, out);
     }
     if n == 3 {
         if line::asks(line, b"compare") {
-            return tree::compare(line, text, table, room, other, out, at);
+            return tree::compare(line, text, table, room, other, out);
         }
     }
     if n == 7 {
         if line::asks(line, b"format") {
-            return layout::format(line, text, table, room, out, at);
+            return layout::format(line, text, table, room, out);
         }
     }
-    lent_memory(line, text, room, table, out, at)
+    lent_memory(line, text, room, table, out)
 }
 
 // The line that ends at a line feed is answered; without one, more is read.
 fn turn(
     held: Held,
+    from: &mut impl Read,
     input: &mut [u8],
     text: &mut [u8],
     room: &mut [u8],
     table: &mut [u32],
     other: &mut [u32],
-    out: &mut [u8],
-) -> Held {
+    out: &mut impl Write,
+) -> io::Result<Held> {
     let end = input::find(input, held.seen, held.end, b'\n');
     if held.end <= end {
-        return input::fill(held, input);
+        return input::fill(held, from, input);
     }
     if held.cut {
-        let at = print::bad_line(out, held.at);
-        return held.past(end, print::put(out, at, b'\n'));
+        print::bad_line(out)?;
+    } else {
+        let line = input::part(input, held.start, end);
+        answer(line, text, room, table, other, out)?;
     }
-    let at = answer(
-        input::part(input, held.start, end),
-        text,
-        room,
-        table,
-        other,
-        out,
-        held.at,
-    );
-    held.past(end, print::put(out, at, b'\n'))
+    print::put(out, b'\n')?;
+    Ok(held.past(end))
 }
 
 // All lines are answered. The turns are counted, because nothing says that the input ends.
 fn serve(
+    from: &mut impl Read,
     input: &mut [u8],
     text: &mut [u8],
     room: &mut [u8],
     table: &mut [u32],
     other: &mut [u32],
-    out: &mut [u8],
-) {
+    out: &mut impl Write,
+) -> io::Result<()> {
     let mut held = Held::new();
-    let mut turns: u64 = 1 << 40;
-    while 0 < turns {
+    for _ in 0..1u64 << 40 {
         if !held.open {
             break;
         }
-        turns -= 1;
-        held = turn(held, input, text, room, table, other, out);
+        held = turn(held, from, input, text, room, table, other, out)?;
     }
-    print::flush(out, held.at);
+    print::flush(out)
 }
 
-fn main() {
+fn main(rt: HostRuntime) -> io::Result<()> {
     // two texts of the longest that is refused for its length, and their tables
     let mut input = [0u8; 524288];
     let mut text = [0u8; 65540];
@@ -148,8 +142,14 @@ fn main() {
     let mut other = [0u32; 327680];
     // an unquoted value, a second text or a layout
     let mut room = [0u8; 524288];
-    let mut out = [0u8; 65536];
+    let mut out = Kept::new(rt.stdout());
     serve(
-        &mut input, &mut text, &mut room, &mut table, &mut other, &mut out,
-    );
+        &mut rt.stdin(),
+        &mut input,
+        &mut text,
+        &mut room,
+        &mut table,
+        &mut other,
+        &mut out,
+    )
 }

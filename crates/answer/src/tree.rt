@@ -2,6 +2,8 @@
 use answer_line::hex::{self, Taken};
 use answer_line::{input, print};
 use eon_spec::{Answer, Compared};
+use std::io;
+use std::io::Write;
 
 // The words of so many records.
 fn records(table: &[u32], count: usize) -> &[u32] {
@@ -13,19 +15,24 @@ fn records(table: &[u32], count: usize) -> &[u32] {
     table
 }
 
-pub fn put_records(text: &[u8], table: &mut [u32], out: &mut [u8], at: usize) -> usize {
+pub fn put_records(text: &[u8], table: &mut [u32], out: &mut impl Write) -> io::Result<()> {
     let r = eon_syntax::read(text, table);
     match r {
-        Answer::Done(count) => print::put_table(out, at, records(table, count)),
-        Answer::Refused(refusal) => print::put_refusal(out, at, refusal),
+        Answer::Done(count) => print::put_table(out, records(table, count)),
+        Answer::Refused(refusal) => print::put_refusal(out, refusal),
     }
 }
 
-pub fn read(line: &[u8], text: &mut [u8], table: &mut [u32], out: &mut [u8], at: usize) -> usize {
+pub fn read(
+    line: &[u8],
+    text: &mut [u8],
+    table: &mut [u32],
+    out: &mut impl Write,
+) -> io::Result<()> {
     let Taken::Bytes(n) = hex::take(line, 1, text) else {
-        return print::bad_line(out, at);
+        return print::bad_line(out);
     };
-    put_records(input::part(text, 0, n), table, out, at)
+    put_records(input::part(text, 0, n), table, out)
 }
 
 // Two texts with their tables.
@@ -34,13 +41,12 @@ fn put_compared(
     table_a: &[u32],
     b: &[u8],
     table_b: &[u32],
-    out: &mut [u8],
-    at: usize,
-) -> usize {
+    out: &mut impl Write,
+) -> io::Result<()> {
     let r = eon_syntax::compare(a, table_a, b, table_b);
     match r {
-        Compared::Equal(truth) => print::put_truth(out, at, truth),
-        Compared::Refused(refusal) => print::put_refusal(out, at, refusal),
+        Compared::Equal(truth) => print::put_truth(out, truth),
+        Compared::Refused(refusal) => print::put_refusal(out, refusal),
     }
 }
 
@@ -50,18 +56,17 @@ fn put_both(
     table_a: &mut [u32],
     b: &[u8],
     table_b: &mut [u32],
-    out: &mut [u8],
-    at: usize,
-) -> usize {
+    out: &mut impl Write,
+) -> io::Result<()> {
     let r = eon_syntax::read(a, table_a);
     if let Answer::Refused(refusal) = r {
-        return print::put_refusal(out, at, refusal);
+        return print::put_refusal(out, refusal);
     }
     let r = eon_syntax::read(b, table_b);
     if let Answer::Refused(refusal) = r {
-        return print::put_refusal(out, at, refusal);
+        return print::put_refusal(out, refusal);
     }
-    put_compared(a, table_a, b, table_b, out, at)
+    put_compared(a, table_a, b, table_b, out)
 }
 
 pub fn compare(
@@ -70,14 +75,13 @@ pub fn compare(
     table: &mut [u32],
     room: &mut [u8],
     other: &mut [u32],
-    out: &mut [u8],
-    at: usize,
-) -> usize {
+    out: &mut impl Write,
+) -> io::Result<()> {
     let Taken::Bytes(n) = hex::take(line, 1, text) else {
-        return print::bad_line(out, at);
+        return print::bad_line(out);
     };
     let Taken::Bytes(m) = hex::take(line, 2, room) else {
-        return print::bad_line(out, at);
+        return print::bad_line(out);
     };
     put_both(
         input::part(text, 0, n),
@@ -85,6 +89,5 @@ pub fn compare(
         input::part(room, 0, m),
         other,
         out,
-        at,
     )
 }

@@ -19,12 +19,10 @@ fn digit(b: u8) -> u8 {
 }
 
 fn is_digits(word: &[u8]) -> bool {
-    let mut i = 0;
-    while i < word.len() {
-        if 15 < digit(word[i]) {
+    for b in word {
+        if 15 < digit(*b) {
             return false;
         }
-        i += 1;
     }
     true
 }
@@ -65,13 +63,11 @@ fn byte_at(word: &[u8], i: usize) -> u8 {
 // The bytes that a word stands for are stored, as far as there is room. How many they are.
 pub fn decode(word: &[u8], room: &mut [u8]) -> usize {
     let n = word.len() / 2;
-    let mut i = 0;
-    while i < n {
+    for i in 0..n {
         if room.len() <= i {
             return n;
         }
         room[i] = byte_at(word, i);
-        i += 1;
     }
     n
 }

@@ -1,14 +1,13 @@
-// Standard input, by lines.
-use libc::STDIN_FILENO;
+// What a reader gives, by lines.
+use std::io;
+use std::io::Read;
 
-// A line begins at `start` of the buffer, is looked through up to `seen`, and the bytes read so far end at `end`. The next
-// answer goes to `at` of the output.
-#[derive(Drop)]
+// A line begins at `start` of the buffer, is looked through up to `seen`, and the bytes read so far end at `end`.
+#[derive(Clone, Copy)]
 pub struct Held {
     pub start: usize,
     pub seen: usize,
     pub end: usize,
-    pub at: usize,
     // the beginning of the line was dropped, because the buffer does not hold the line
     pub cut: bool,
     // the input goes on
@@ -21,20 +20,18 @@ impl Held {
             start: 0,
             seen: 0,
             end: 0,
-            at: 0,
             cut: false,
             open: true,
         }
     }
 
-    // The line up to `feed` is answered, and the output goes on at `at`.
-    pub fn past(self, feed: usize, at: usize) -> Self {
+    // The line up to `feed` is answered.
+    pub fn past(self, feed: usize) -> Self {
         let next = after(feed);
         Held {
             start: next,
             seen: next,
             end: self.end,
-            at,
             cut: false,
             open: self.open,
         }
@@ -46,7 +43,6 @@ impl Held {
             start: 0,
             seen: end,
             end,
-            at: self.at,
             cut: self.cut,
             open: self.open,
         }
@@ -58,7 +54,6 @@ impl Held {
             start: self.start,
             seen: self.end,
             end,
-            at: self.at,
             cut: self.cut,
             open: self.open,
         }
@@ -69,7 +64,6 @@ impl Held {
             start: 0,
             seen: 0,
             end: 0,
-            at: self.at,
             cut: true,
             open: self.open,
         }
@@ -80,7 +74,6 @@ impl Held {
             start: self.start,
             seen: self.seen,
             end: self.end,
-            at: self.at,
             cut: self.cut,
             open: false,
         }
@@ -95,7 +88,11 @@ fn after(i: usize) -> usize {
 pub fn find(s: &[u8], from: usize, end: usize, b: u8) -> usize {
     if from <= end {
         if end <= s.len() {
-            return bytes::scan::find(s, from, end, b);
+            for i in from..end {
+                if s[i] == b {
+                    return i;
+                }
+            }
         }
     }
     end
@@ -114,8 +111,7 @@ pub fn part(s: &[u8], start: usize, end: usize) -> &[u8] {
 // The bytes from `from` to `end` go to the beginning; how many they are.
 fn move_down(s: &mut [u8], from: usize, end: usize) -> usize {
     let mut i = 0;
-    let mut j = from;
-    while j < end {
+    for j in from..end {
         if s.len() <= j {
             return i;
         }
@@ -124,18 +120,16 @@ fn move_down(s: &mut [u8], from: usize, end: usize) -> usize {
         }
         s[i] = s[j];
         i += 1;
-        j += 1;
     }
     i
 }
 
 // How many bytes are read to the end of a buffer, from `from` on.
-fn read_from(s: &mut [u8], from: usize) -> usize {
+fn read_from(input: &mut impl Read, s: &mut [u8], from: usize) -> io::Result<usize> {
     if s.len() < from {
-        return 0;
+        return Ok(0);
     }
-    let got = libc::read(STDIN_FILENO, &mut s[from..]);
-    io::count(got, &s[from..])
+    input.read(&mut s[from..])
 }
 
 // The sum, as far as it fits.
@@ -145,26 +139,26 @@ fn sum(a: usize, b: usize) -> usize {
 
 // More is read. A line that begins later is first moved to the beginning, one for which there is no room is dropped, and
 // the last one gets a line feed if it has none.
-pub fn fill(held: Held, s: &mut [u8]) -> Held {
+pub fn fill(held: Held, input: &mut impl Read, s: &mut [u8]) -> io::Result<Held> {
     if 0 < held.start {
-        return held.moved(move_down(s, held.start, held.end));
+        return Ok(held.moved(move_down(s, held.start, held.end)));
     }
     let end = held.end;
     if s.len() <= end {
-        return held.dropped();
+        return Ok(held.dropped());
     }
-    let n = read_from(s, end);
+    let n = read_from(input, s, end)?;
     if 0 < n {
-        return held.grown(sum(end, n));
+        return Ok(held.grown(sum(end, n)));
     }
     if end == 0 {
         if !held.cut {
-            return held.closed();
+            return Ok(held.closed());
         }
     }
     if s.len() <= end {
-        return held.closed();
+        return Ok(held.closed());
     }
     s[end] = b'\n';
-    held.grown(after(end))
+    Ok(held.grown(after(end)))
 }

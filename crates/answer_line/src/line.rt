@@ -9,12 +9,10 @@ fn more(n: usize) -> usize {
 // How many words there are.
 pub fn words(line: &[u8]) -> usize {
     let mut n = 1;
-    let mut i = 0;
-    while i < line.len() {
-        if line[i] == b' ' {
+    for b in line {
+        if *b == b' ' {
             n = more(n);
         }
-        i += 1;
     }
     n
 }
@@ -22,19 +20,17 @@ pub fn words(line: &[u8]) -> usize {
 // The word of a number, from 0 for the verb; the empty one if there is none.
 pub fn word(line: &[u8], number: usize) -> &[u8] {
     let mut from = 0;
-    let mut left = number;
-    while 0 < left {
+    for _ in 0..number {
         let blank = input::find(line, from, line.len(), b' ');
         if line.len() <= blank {
             return &line[..0];
         }
         from = blank + 1;
-        left -= 1;
     }
     input::part(line, from, input::find(line, from, line.len(), b' '))
 }
 
 // The line begins with the verb.
 pub fn asks(line: &[u8], verb: &[u8]) -> bool {
-    check::same(word(line, 0), verb)
+    word(line, 0) == verb
 }

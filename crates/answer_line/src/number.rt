@@ -31,17 +31,14 @@ pub fn take(line: &[u8], number: usize) -> Number {
 
 fn decimal(word: &[u8]) -> Number {
     let mut n = 0;
-    let mut i = 0;
-    while i < word.len() {
-        let b = word[i];
-        if b < b'0' {
+    for b in word {
+        if *b < b'0' {
             return Number::Bad;
         }
-        if b'9' < b {
+        if b'9' < *b {
             return Number::Bad;
         }
-        n = longer(n, b - b'0');
-        i += 1;
+        n = longer(n, *b - b'0');
     }
     Number::Of(n)
 }
@@ -67,13 +64,11 @@ fn word_at(bytes: &[u8], i: usize) -> u32 {
 // The words that the bytes stand for are stored, as far as there is room. How many they are.
 fn store(bytes: &[u8], table: &mut [u32]) -> usize {
     let n = bytes.len() / 4;
-    let mut i = 0;
-    while i < n {
+    for i in 0..n {
         if table.len() <= i {
             return n;
         }
         table[i] = word_at(bytes, i);
-        i += 1;
     }
     n
 }

@@ -79,7 +79,7 @@ fn is_whitespace(c: u32) -> bool
 
 // Where unescaping stands: in literal or plain text, behind a backslash, in the blanks behind an escaped line feed, behind
 // `\u`, or in `\u{..` after so many digits with that number so far.
-#[derive(Drop)]
+#[derive(Clone, Copy)]
 pub enum Mode {
     Literal,
     Plain,

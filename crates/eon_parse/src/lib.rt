@@ -19,7 +19,7 @@ use eon_token::token_kind::PlacedToken;
 use eon_utf8::well_formed_len;
 
 // A cursor, the number of records so far, and whether the table has agreed.
-#[derive(Drop)]
+#[derive(Clone, Copy)]
 pub struct Walk {
     pub cursor: Cursor,
     pub count: usize,
@@ -27,21 +27,21 @@ pub struct Walk {
 }
 
 // A refusal, and the end of the last token consumed.
-#[derive(Drop)]
+#[derive(Clone, Copy)]
 pub struct Stop {
     pub refusal: Refusal,
     pub consumed: usize,
 }
 
 // A value without its comments, or an inside: refused, or the walk behind it.
-#[derive(Drop)]
+#[derive(Clone, Copy)]
 pub enum Bare {
     Refused(Stop),
     Done(Walk),
 }
 
 // A value: refused, or the walk behind it and where it ends without its suffix comment.
-#[derive(Drop)]
+#[derive(Clone, Copy)]
 pub enum Got {
     Stopped(Stop),
     Value(Walk, usize),
@@ -853,7 +853,7 @@ fn fill_map(text: &[u8], table: &mut [u32], w: Walk, depth: usize) -> Bare
 // ---- a whole text
 
 // What a whole text is: refused, or its records' number and whether the table has them.
-#[derive(Drop)]
+#[derive(Clone, Copy)]
 pub enum Top {
     Denied(Refusal),
     Map(usize, bool),

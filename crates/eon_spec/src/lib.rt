@@ -10,7 +10,7 @@ pub mod error;
 pub mod record_kind;
 
 // Why a call refuses: the number, the place in bytes, and the token kinds that 11 and 12 name (0 in the others).
-#[derive(Drop)]
+#[derive(Clone, Copy)]
 pub struct Refusal {
     pub number: u32,
     pub start: usize,
@@ -20,7 +20,7 @@ pub struct Refusal {
 }
 
 // Reading answers how many records it wrote, and layout how many bytes.
-#[derive(Drop)]
+#[derive(Clone, Copy)]
 pub enum Answer {
     Done(usize),
     Refused(Refusal),
@@ -28,7 +28,7 @@ pub enum Answer {
 
 // A record that shares a byte with a range: its number and its span. C lends a list of these, so the layout is C's.
 #[repr(C)]
-#[derive(Drop)]
+#[derive(Clone, Copy)]
 pub struct Hit {
     pub record: usize,
     pub start: usize,
@@ -36,28 +36,28 @@ pub struct Hit {
 }
 
 // What the two calls of a run answered, reading and then layout.
-#[derive(Drop)]
+#[derive(Clone, Copy)]
 pub struct Run {
     pub read: Answer,
     pub written: Answer,
 }
 
 // What the afternoon's and the evening's run answered.
-#[derive(Drop)]
+#[derive(Clone, Copy)]
 pub struct Runs {
     pub afternoon: Run,
     pub evening: Run,
 }
 
 // What two rows of such runs answered.
-#[derive(Drop)]
+#[derive(Clone, Copy)]
 pub struct Rows {
     pub first: Runs,
     pub second: Runs,
 }
 
 // Comparison answers whether two trees are equal.
-#[derive(Drop)]
+#[derive(Clone, Copy)]
 pub enum Compared {
     Equal(bool),
     Refused(Refusal),
@@ -72,21 +72,21 @@ pub const KEYS_MAX: usize = 8;
 pub const NONE: u32 = 4294967295;
 
 // A lookup answers how many steps it took, and beside that for each path the number of a record, or NONE.
-#[derive(Drop)]
+#[derive(Clone, Copy)]
 pub struct Found {
     pub answer: Answer,
     pub answers: [u32; PATHS_MAX],
 }
 
 // The slice that holds an unquoted value.
-#[derive(Drop)]
+#[derive(Clone, Copy)]
 pub enum Which {
     Quoted,
     Scratch,
 }
 
 // Unquoting answers which slice holds the value, where it starts there, and how long it is.
-#[derive(Drop)]
+#[derive(Clone, Copy)]
 pub enum Unquoted {
     Part(Which, usize, usize),
     Refused(Refusal),
@@ -96,14 +96,14 @@ pub enum Unquoted {
 pub const SETTING_MAX: usize = 16;
 
 // A setting's text is the first `len` of its bytes.
-#[derive(Drop)]
+#[derive(Clone, Copy)]
 pub struct Setting {
     pub bytes: [u8; SETTING_MAX],
     pub len: usize,
 }
 
 // How to lay a document out.
-#[derive(Drop)]
+#[derive(Clone, Copy)]
 pub struct FormatOptions {
     pub indentation: Setting,
     pub newline: Setting,

@@ -8,7 +8,7 @@ ghost use Rattle.eon_token.specs.Place.{span, place_of, cursor_at, next_span, li
 use crate::token_kind::{PlacedToken, next_token};
 
 // The span of the last token consumed, and the token behind it.
-#[derive(Drop)]
+#[derive(Clone, Copy)]
 pub struct Cursor {
     pub start: usize,
     pub end: usize,

@@ -5,7 +5,7 @@ ghost use Rattle.eon_token.specs.Placed.{placed_at};
 ghost use Rattle.eon_token.specs.Machine.{class, span_of, before, run, closed_at, Quote, inside_s, multi_s, plain_k, multi_k, Found, finish, from_b};
 
 // kind: 1 to 15 in the order of the enum TokenKind, 0 for an invalid token, 16 at the end of the text.
-#[derive(Drop)]
+#[derive(Clone, Copy)]
 pub struct PlacedToken {
     pub kind: u32,
     pub start: usize,

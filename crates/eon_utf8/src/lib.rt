@@ -123,7 +123,7 @@ fn above(x: u8, y: u8) -> u32
 }
 
 // A character: its code point and its length.
-#[derive(Drop)]
+#[derive(Clone, Copy)]
 pub struct Char {
     pub code: u32,
     pub len: usize,

@@ -3,6 +3,8 @@
 #![tactic(auto)]
 
 use eon_spec::{Answer, Refusal};
+use std::io;
+use std::io::{ErrorKind, Read, Write};
 
 // A byte more than a text has at most, so that a full buffer is refused by 1.
 const TEXT_BYTES: usize = 65536;
@@ -15,36 +17,27 @@ const OUT_BYTES: usize = 65536;
 // How often in all a read may be interrupted by a signal before it counts as failed.
 const INTERRUPTS: usize = 1000;
 
-// The length of what was read to the end, or a read that failed.
-#[derive(Drop)]
-enum Input {
-    Whole(usize),
-    Failed,
-}
-
-// All of standard input, as far as there is room. The end is a read of no bytes and nothing else.
-fn read_input(text: &mut [u8]) -> Input {
+// The length of what was read to the end, as far as there is room, or a read that failed. The end is a read of no bytes and
+// nothing else.
+fn read_input(input: &mut impl Read, text: &mut [u8]) -> io::Result<usize> {
     let mut n = 0;
     let mut interrupts = INTERRUPTS;
     while n < text.len() {
-        let got = libc::read(libc::STDIN_FILENO, &mut text[n..]);
-        if got < 0 {
-            if interrupts == 0 {
-                return Input::Failed;
+        match input.read(&mut text[n..]) {
+            Ok(0) => return Ok(n),
+            Ok(more) => n += more,
+            Err(e) => {
+                if interrupts == 0 {
+                    return Err(e);
+                }
+                if e.kind() != ErrorKind::Interrupted {
+                    return Err(e);
+                }
+                interrupts -= 1;
             }
-            if os::errno() != libc::EINTR {
-                return Input::Failed;
-            }
-            interrupts -= 1;
-            continue;
         }
-        let more = io::count(got, &text[n..]);
-        if more == 0 {
-            return Input::Whole(n);
-        }
-        n += more;
     }
-    Input::Whole(n)
+    Ok(n)
 }
 
 // The first n bytes.
@@ -57,45 +50,50 @@ fn front(bytes: &[u8], n: usize) -> &[u8] {
 }
 
 // The functions that write answer whether all was taken.
-fn write_number(n: usize) -> bool {
-    io::write_all(libc::STDOUT_FILENO, b" ") && io::print_decimal(libc::STDOUT_FILENO, n as u64)
+fn write_number(to: &mut impl Write, n: usize) -> io::Result<()> {
+    write!(to, " {n}")
 }
 
-fn write_refusal(r: Refusal) -> bool {
-    io::write_all(libc::STDOUT_FILENO, b"refused")
-        && write_number(r.number as usize)
-        && write_number(r.start)
-        && write_number(r.end)
-        && io::write_all(libc::STDOUT_FILENO, b"\n")
+fn write_refusal(to: &mut impl Write, r: Refusal) -> io::Result<()> {
+    to.write_all(b"refused")?;
+    write_number(to, r.number as usize)?;
+    write_number(to, r.start)?;
+    write_number(to, r.end)?;
+    to.write_all(b"\n")
 }
 
-fn write_answer(answer: Answer, out: &[u8]) -> bool {
+fn write_answer(to: &mut impl Write, answer: Answer, out: &[u8]) -> io::Result<()> {
     match answer {
-        Answer::Done(n) => io::write_all(libc::STDOUT_FILENO, front(out, n)),
-        Answer::Refused(r) => write_refusal(r),
+        Answer::Done(n) => to.write_all(front(out, n)),
+        Answer::Refused(r) => write_refusal(to, r),
     }
 }
 
 // Reading's refusal, or what layout answered.
-fn lay_out(text: &[u8]) -> bool {
+fn lay_out(to: &mut impl Write, text: &[u8]) -> io::Result<()> {
     let mut table = [0u32; TABLE_WORDS];
     let mut out = [0u8; OUT_BYTES];
     let run = eon_runs::run(text, &mut table, &mut out);
     let read = run.read;
     if let Answer::Refused(r) = read {
-        return write_refusal(r);
+        return write_refusal(to, r);
     }
     let answer = run.written;
-    write_answer(answer, &out)
+    write_answer(to, answer, &out)
 }
 
-fn main() {
+// Why standard input or output failed is told on standard error, where that can be written.
+fn tell(rt: &impl Eprint, stream: &str, e: io::Error) {
+    let _ = eprintln!(rt; "eonfmt: standard {stream}: {e}");
+}
+
+fn main(rt: HostRuntime) {
     let mut text = [0u8; TEXT_BYTES];
-    match read_input(&mut text) {
-        Input::Failed => os::fail(b"eonfmt: standard input"),
-        Input::Whole(n) => {
-            if !lay_out(front(&text, n)) {
-                os::fail(b"eonfmt: standard output");
+    match read_input(&mut rt.stdin(), &mut text) {
+        Err(e) => tell(&rt, "input", e),
+        Ok(n) => {
+            if let Err(e) = lay_out(&mut rt.stdout(), front(&text, n)) {
+                tell(&rt, "output", e);
             }
         }
     }

@@ -32,92 +32,92 @@ other? n = elem n keys || (within 48 57 n || (within 65 90 n || (within 97 122 n
 
 pub returns-in-10 : goal.returns-in-10
 unfolding class classes
-returns-in-10 c = sym (ap class c.in-10.keys1)
+returns-in-10 c = sym (ap class c.in-10.is)
 
 pub returns-in-9 : goal.returns-in-9
 unfolding class classes
-returns-in-9 c = sym (ap class c.in-9.keys2)
+returns-in-9 c = sym (ap class c.in-9.is)
 
 pub returns-in-12 : goal.returns-in-12
 unfolding class classes
-returns-in-12 c = sym (ap class c.in-12.keys3)
+returns-in-12 c = sym (ap class c.in-12.is)
 
 pub returns-in-13 : goal.returns-in-13
 unfolding class classes
-returns-in-13 c = sym (ap class c.in-13.keys4)
+returns-in-13 c = sym (ap class c.in-13.is)
 
 pub returns-in-32 : goal.returns-in-32
 unfolding class classes
-returns-in-32 c = sym (ap class c.in-32.keys5)
+returns-in-32 c = sym (ap class c.in-32.is)
 
 pub returns-in-34 : goal.returns-in-34
 unfolding class classes
-returns-in-34 c = sym (ap class c.in-34.keys6)
+returns-in-34 c = sym (ap class c.in-34.is)
 
 pub returns-in-39 : goal.returns-in-39
 unfolding class classes
-returns-in-39 c = sym (ap class c.in-39.keys7)
+returns-in-39 c = sym (ap class c.in-39.is)
 
 pub returns-in-40 : goal.returns-in-40
 unfolding class classes
-returns-in-40 c = sym (ap class c.in-40.keys8)
+returns-in-40 c = sym (ap class c.in-40.is)
 
 pub returns-in-41 : goal.returns-in-41
 unfolding class classes
-returns-in-41 c = sym (ap class c.in-41.keys9)
+returns-in-41 c = sym (ap class c.in-41.is)
 
 pub returns-in-43 : goal.returns-in-43
 unfolding class classes
-returns-in-43 c = sym (ap class c.in-43.keys10)
+returns-in-43 c = sym (ap class c.in-43.is)
 
 pub returns-in-44 : goal.returns-in-44
 unfolding class classes
-returns-in-44 c = sym (ap class c.in-44.keys11)
+returns-in-44 c = sym (ap class c.in-44.is)
 
 pub returns-in-45 : goal.returns-in-45
 unfolding class classes
-returns-in-45 c = sym (ap class c.in-45.keys12)
+returns-in-45 c = sym (ap class c.in-45.is)
 
 pub returns-in-46 : goal.returns-in-46
 unfolding class classes
-returns-in-46 c = sym (ap class c.in-46.keys13)
+returns-in-46 c = sym (ap class c.in-46.is)
 
 pub returns-in-47 : goal.returns-in-47
 unfolding class classes
-returns-in-47 c = sym (ap class c.in-47.keys14)
+returns-in-47 c = sym (ap class c.in-47.is)
 
 pub returns-in-58 : goal.returns-in-58
 unfolding class classes
-returns-in-58 c = sym (ap class c.in-58.keys15)
+returns-in-58 c = sym (ap class c.in-58.is)
 
 pub returns-in-91 : goal.returns-in-91
 unfolding class classes
-returns-in-91 c = sym (ap class c.in-91.keys16)
+returns-in-91 c = sym (ap class c.in-91.is)
 
 pub returns-in-92 : goal.returns-in-92
 unfolding class classes
-returns-in-92 c = sym (ap class c.in-92.keys17)
+returns-in-92 c = sym (ap class c.in-92.is)
 
 pub returns-in-93 : goal.returns-in-93
 unfolding class classes
-returns-in-93 c = sym (ap class c.in-93.keys18)
+returns-in-93 c = sym (ap class c.in-93.is)
 
 pub returns-in-95 : goal.returns-in-95
 unfolding class classes
-returns-in-95 c = sym (ap class c.in-95.keys19)
+returns-in-95 c = sym (ap class c.in-95.is)
 
 pub returns-in-123 : goal.returns-in-123
 unfolding class classes
-returns-in-123 c = sym (ap class c.in-123.keys20)
+returns-in-123 c = sym (ap class c.in-123.is)
 
 pub returns-in-125 : goal.returns-in-125
 unfolding class classes
-returns-in-125 c = sym (ap class c.in-125.keys21)
+returns-in-125 c = sym (ap class c.in-125.is)
 
 pub returns-in_default : goal.returns-in_default
 unfolding other? keys class classes
 returns-in_default c = let b = c.args.b in
-    let r = c.in_default.rest in
+    let r = c.in_default.in_default-own.rest in
     let p = c.requires in
     eqb→eq 6 (class b)
     (or-false (within 97 122 b) _ (outside 97 122 b p.3)

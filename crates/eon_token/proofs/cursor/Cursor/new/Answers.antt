@@ -11,4 +11,4 @@ pub next_token-t-requires : goal.next_token-t-requires
 next_token-t-requires c = (c.requires, boundary_start c.args.text.now)
 
 pub returns : goal.returns
-returns c = (ap (λ (t : PlacedToken). record { start = 0; end = 0; peeked = t }) c.next_token-t.ensures, ap (behind (span 0 0)) (sym (tokens_start c.args.text.now)))
+returns c = record { place = ap (λ (t : PlacedToken). record { start = 0; end = 0; peeked = t }) c.next_token-t.ensures; stands = ap (behind (span 0 0)) (sym (tokens_start c.args.text.now)) }

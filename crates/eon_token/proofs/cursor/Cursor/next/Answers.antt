@@ -17,9 +17,9 @@ pub returns : goal.returns
 returns c = let a = c in
     let s = a.args.text.now in
     let x = c.peek-t.result in
-    let e : x ≡ placed_at s a.args.self.end = c.peek-t.ensures ∙ peeks s a.args.self a.requires.0 in (
-      ap (λ (t : PlacedToken). record { start = x.start; end = x.end; peeked = t }) c.next_token-u.ensures
-          ∙ ap (λ (t : PlacedToken). record { start = t.start; end = t.end; peeked = placed_at s t.end }) e,
-      ap (λ (t : PlacedToken). stands_for s (record { start = t.start; end = t.end; peeked = c.next_token-u.result })) e
-          ∙ skips s (place_of a.args.self) a.requires.0.bound (omega (arith, a.requires.1, peeks_kind s a.args.self a.requires.0)),
-    )
+    let e : x ≡ placed_at s a.args.self.end = c.peek-t.ensures ∙ peeks s a.args.self a.requires.0 in record {
+      place = ap (λ (t : PlacedToken). record { start = x.start; end = x.end; peeked = t }) c.next_token-u.ensures
+          ∙ ap (λ (t : PlacedToken). record { start = t.start; end = t.end; peeked = placed_at s t.end }) e;
+      stands = ap (λ (t : PlacedToken). stands_for s (record { start = t.start; end = t.end; peeked = c.next_token-u.result })) e
+          ∙ skips s (place_of a.args.self) a.requires.0.bound (omega (arith, a.requires.1, peeks_kind s a.args.self a.requires.0));
+    }
