@@ -20,7 +20,7 @@ const WHITE_SPACE: [u32; 25] = [
 ];
 
 // A number that a table may give.
-#[derive(Drop)]
+#[derive(Clone, Copy)]
 pub enum Found {
     Code(u32),
     Nothing,
@@ -90,7 +90,7 @@ pub enum Mode {
 }
 
 // What a character does: it is taken in, gives a character, or is refused.
-#[derive(Drop)]
+#[derive(Clone, Copy)]
 pub enum Step {
     Go(Mode),
     Put(u32, Mode),
