@@ -1,0 +1,9 @@
+-- Each turn reads on or is one interrupt fewer.
+use Rattle.std.proofs.Common.{length, ◌-◌, ◌≡◌, ℕ, ◌+◌, ◌*◌, ◌<◌, ◌≤◌}
+use Rattle.eonfmt.proofs.read_input.Given as goal
+
+abbrev pub invariant-loop-n : goal.invariant-loop-n
+invariant-loop-n g l = length l.text ≡ length l.initial.text
+
+abbrev pub decreases-loop-n : goal.decreases-loop-n
+decreases-loop-n g l = (length l.initial.text - l.n) + l.interrupts
