@@ -1,4 +1,4 @@
--- A text whose well_formed beginning is the whole of it is UTF-8.
+-- A text whose well-formed beginning is the whole of it is UTF-8.
 use borrow.Author.Rules.{rules}
 use borrow.Author.Tests.{eq-eqb}
 use mathlib.Core.Path.{sym, ◌∙◌}
