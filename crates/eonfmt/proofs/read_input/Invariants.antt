@@ -1,5 +1,5 @@
 -- Each turn reads on or is one interrupt fewer.
-use Rattle.std.proofs.Common.{length, ◌-◌, ◌≡◌, ℕ, ◌+◌, ◌*◌, ◌<◌, ◌≤◌}
+use Rattle.std.proofs.Common.{length, ◌-◌, ◌≡◌, ◌+◌}
 use Rattle.eonfmt.proofs.read_input.Given as goal
 
 abbrev pub invariant-loop-n : goal.invariant-loop-n
