@@ -1,4 +1,4 @@
-/* Eon texts by the proved calls of crates/eon_c. Link target/staticlib/libeon_c.a, written by `rt staticlib eon_c`.
+/* Eon texts by the proved calls of crates/eon_c. Link crates/eon_c/out/libeon_c.a, written by `rt lib` in crates/eon_c.
  *
  * Texts are any bytes; read are those of at most EON_MAX_TEXT bytes of UTF-8. A call answers, or refuses by a number, and a
  * refusal leaves the lent table, output, scratch or list as it was. No call allocates, keeps a pointer, or needs a text that

@@ -1,4 +1,4 @@
-//! Links `libeon_c.a`, which `rt staticlib eon_c` writes. `EON_LIB` names it where it lies elsewhere.
+//! Links `libeon_c.a`, which `rt lib` writes in `crates/eon_c`. `EON_LIB` names it where it lies elsewhere.
 
 use std::env;
 use std::path::{Path, PathBuf};
@@ -9,7 +9,7 @@ fn main() {
     println!("cargo::rerun-if-changed={}", archive.display());
     if !archive.is_file() {
         println!(
-            "cargo::error=no archive {}: run `rt staticlib eon_c`, or name it in EON_LIB",
+            "cargo::error=no archive {}: run `rt lib` in crates/eon_c, or name it in EON_LIB",
             archive.display()
         );
         return;
@@ -21,5 +21,5 @@ fn main() {
 
 fn default_archive() -> PathBuf {
     let own = env::var_os("CARGO_MANIFEST_DIR").unwrap_or_default();
-    Path::new(&own).join("../../target/staticlib/libeon_c.a")
+    Path::new(&own).join("../../crates/eon_c/out/libeon_c.a")
 }

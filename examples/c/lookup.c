@@ -1,8 +1,8 @@
 /* lookup EVENT PATHS: looks the paths of the second file up in the first, and prints for each the text of a value that it reaches, or
  * `none`, and then the steps; or says why a file is refused, where, and ends with 1.
  *
- *   rt staticlib eon_c
- *   cc -std=c11 -Iinclude -o lookup examples/c/lookup.c target/staticlib/libeon_c.a
+ *   (cd crates/eon_c && rt lib)
+ *   cc -std=c11 -Iinclude -o lookup examples/c/lookup.c crates/eon_c/out/libeon_c.a
  */
 #include <inttypes.h>
 #include <stdio.h>

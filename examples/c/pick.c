@@ -1,8 +1,8 @@
 /* pick FILE OFFSET: prints the record at a byte offset of the file, its number, kind, span and text; or says why the file is refused,
  * where, and ends with 1.
  *
- *   rt staticlib eon_c
- *   cc -std=c11 -Iinclude -o pick examples/c/pick.c target/staticlib/libeon_c.a
+ *   (cd crates/eon_c && rt lib)
+ *   cc -std=c11 -Iinclude -o pick examples/c/pick.c crates/eon_c/out/libeon_c.a
  */
 #include <ctype.h>
 #include <inttypes.h>

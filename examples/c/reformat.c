@@ -1,7 +1,7 @@
 /* reformat FILE: prints the file laid out, or says why it is refused, where, and ends with 1.
  *
- *   rt staticlib eon_c
- *   cc -std=c11 -Iinclude -o reformat examples/c/reformat.c target/staticlib/libeon_c.a
+ *   (cd crates/eon_c && rt lib)
+ *   cc -std=c11 -Iinclude -o reformat examples/c/reformat.c crates/eon_c/out/libeon_c.a
  */
 #include <stdio.h>
 #include <stdlib.h>

@@ -20,7 +20,7 @@ const WHITE_SPACE: [u32; 25] = [
 ];
 
 // A number that a table may give.
-#[derive(Drop)]
+#[derive(Clone, Copy)]
 pub enum Found {
     Code(u32),
     Nothing,
@@ -79,7 +79,7 @@ fn is_whitespace(c: u32) -> bool
 
 // Where unescaping stands: in literal or plain text, behind a backslash, in the blanks behind an escaped line feed, behind
 // `\u`, or in `\u{..` after so many digits with that number so far.
-#[derive(Drop)]
+#[derive(Clone, Copy)]
 pub enum Mode {
     Literal,
     Plain,
@@ -90,7 +90,7 @@ pub enum Mode {
 }
 
 // What a character does: it is taken in, gives a character, or is refused.
-#[derive(Drop)]
+#[derive(Clone, Copy)]
 pub enum Step {
     Go(Mode),
     Put(u32, Mode),

@@ -1,16 +1,16 @@
 -- Comments by the table's words, and as the definition writes them.
-use mathlib.Core.Path.{◌≡◌, refl, sym, ap, ◌∙◌}
+use mathlib.Core.Path.{◌≡◌, refl, ap, ◌∙◌}
 use mathlib.Core.Bool.{Bool, true, false}
 use mathlib.Core.Option.{Option, none, some}
 use mathlib.Core.List.{List, [], ◌∷◌, ◌++◌}
-use Prim.Native.Nat.{ℕ, zero, suc, ◌+◌, ◌-◌, ◌≤◌, ◌<◌}
+use Prim.Native.Nat.{ℕ, suc, ◌+◌, ◌-◌, ◌≤◌, ◌<◌}
 use native.Mathlib.Omega.{arith}
 use lib.ListN.{length}
 use Rattle.eon_spec.specs.Tree.{Slice}
 use Rattle.eon_spec.specs.Layout.{Settings, add_indent, suffix_comment, indented_comments, closing}
 use Rattle.eon_laws.proofs.Facts.{clash}
 use Rattle.eon_format.specs.Lines.{lines, closing_lines}
-use Rattle.eon_table.specs.Words.{word, has_suffix, Within, text_at}
+use Rattle.eon_table.specs.Words.{has_suffix, Within, text_at}
 use Rattle.eon_table.specs.TreeAt.{SuffixAt, CommentsAt}
 
 -- ---- comments

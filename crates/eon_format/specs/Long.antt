@@ -1,5 +1,5 @@
 -- The forms on several lines, each under a name.
-use Rattle.std.specs.Prelude.{ℕ, suc, ◌+◌, ◌≤◌, ◌<◌, ◌≡◌, true, false, ◌&&◌, cond, List, ◌++◌, eqb}
+use Rattle.std.specs.Prelude.{ℕ, suc, ◌≤◌, ◌<◌, ◌≡◌, true, false, ◌&&◌, cond, List, ◌++◌, eqb}
 use Rattle.eon_spec.specs.Base.{codes}
 use Rattle.eon_spec.specs.Tree.{Slice, TokenTree, TokenValue, TokenTrees, KeyValues}
 use Rattle.eon_spec.specs.Layout.{Settings, add_indent, no_values, no_key_values, on_lines, line_ends, list_content, map_content, indented_comments, suffix_comment, prefix_of, suffix_of, bare_value, shared, shared_first, is_empty, is_container, is_sole_container}

@@ -242,7 +242,7 @@ fn long_variant(
 // whether it is flat, and no string is searched for a line feed twice. An indentation costs its depth, also where it is only measured.
 
 // A tree: the lines before it, its value and its suffix comment.
-#[cycle(container_indented_key_value_indented_value_list_map_map_content_shared_value_variant)]
+#[cycle(layout)]
 fn indented_value(
     text: &[u8],
     table: &[u32],
@@ -265,7 +265,7 @@ fn indented_value(
 }
 
 // A value. A simple one is written here, so that it costs no call with a large frame.
-#[cycle(container_indented_key_value_indented_value_list_map_map_content_shared_value_variant)]
+#[cycle(layout)]
 fn value(
     text: &[u8],
     table: &[u32],
@@ -286,7 +286,7 @@ fn value(
 }
 
 // A list, map or variant with something in it.
-#[cycle(container_indented_key_value_indented_value_list_map_map_content_shared_value_variant)]
+#[cycle(layout)]
 fn container(
     text: &[u8],
     table: &[u32],
@@ -314,7 +314,7 @@ fn container(
 }
 
 // A list on lines.
-#[cycle(container_indented_key_value_indented_value_list_map_map_content_shared_value_variant)]
+#[cycle(layout)]
 fn list(
     text: &[u8],
     table: &[u32],
@@ -342,7 +342,7 @@ fn list(
 }
 
 // A map on lines.
-#[cycle(container_indented_key_value_indented_value_list_map_map_content_shared_value_variant)]
+#[cycle(layout)]
 fn map(
     text: &[u8],
     table: &[u32],
@@ -363,7 +363,7 @@ fn map(
 }
 
 // A map's pairs on lines, and its closing comments.
-#[cycle(container_indented_key_value_indented_value_list_map_map_content_shared_value_variant)]
+#[cycle(layout)]
 fn map_content(
     text: &[u8],
     table: &[u32],
@@ -391,7 +391,7 @@ fn map_content(
     closing(text, table, o, j == base, j, end, n, out, live, at)
 }
 
-#[cycle(container_indented_key_value_indented_value_list_map_map_content_shared_value_variant)]
+#[cycle(layout)]
 fn indented_key_value(
     text: &[u8],
     table: &[u32],
@@ -419,7 +419,7 @@ fn indented_key_value(
 }
 
 // A variant that is not on one line.
-#[cycle(container_indented_key_value_indented_value_list_map_map_content_shared_value_variant)]
+#[cycle(layout)]
 fn variant(
     text: &[u8],
     table: &[u32],
@@ -445,7 +445,7 @@ fn variant(
 }
 
 // A variant's sole list or map, within its brackets.
-#[cycle(container_indented_key_value_indented_value_list_map_map_content_shared_value_variant)]
+#[cycle(layout)]
 fn shared(
     text: &[u8],
     table: &[u32],

@@ -1,8 +1,8 @@
 -- A whole text in one walk: what is answered, and what stands at the table's front. Assumes nothing.
 use mathlib.Core.Path.{◌≡◌, refl, sym, ap, ◌∙◌, subst}
 use mathlib.Core.Bool.{Bool, true, false, cond}
-use mathlib.Core.List.{List, [], ◌∷◌, ◌++◌}
-use Prim.Native.Nat.{ℕ, suc, ◌+◌, ◌*◌, ◌≤◌}
+use mathlib.Core.List.{List, ◌∷◌}
+use Prim.Native.Nat.{ℕ, ◌+◌, ◌≤◌}
 use native.Mathlib.Omega.{arith}
 use lib.ListN.{length, take, drop}
 use lib.Seq.{sets, take-append_seam}
@@ -14,7 +14,7 @@ use Rattle.eon_spec.specs.declared.Refusal.{Refusal}
 use Rattle.eon_spec.specs.declared.Answer.{Answer}
 use Rattle.eon_spec.specs.declared.Answer.TheVariants.{Done, Refused}
 use Rattle.eon_spec.specs.Base.{eq_list}
-use Rattle.eon_spec.specs.Parse.{refusal, further, Parsed, parsed, refused_by, parse}
+use Rattle.eon_spec.specs.Parse.{refusal, Parsed, parsed, refused_by, parse}
 use Rattle.eon_spec.specs.Records.{words, tree_records}
 use Rattle.eon_spec.specs.Calls.{Outcome, outcome_of, done, then, refused_with, nowhere, parsed_outcome, read_text, is_finished, read_finished}
 use Rattle.eon_laws.proofs.Facts.{list_same}
@@ -25,7 +25,7 @@ use Rattle.eon_token.proofs.Places.{start_spot}
 use Rattle.eon_token.specs.declared.token_kind.PlacedToken.{PlacedToken}
 use Rattle.eon_token.specs.declared.cursor.Cursor.{Cursor}
 use Rattle.eon_parse.specs.Walk.{Out, refuse, got, Records, header, run, end_of, stops, one, two, inside, below}
-use Rattle.eon_parse.specs.Top.{Shape, denied, asMap, asSingle, asSeveral, Whole, denies, gives, whole_of, shape_whole, ended, several_by, list_by, map_by, top_at}
+use Rattle.eon_parse.specs.Top.{Shape, denied, asMap, asSingle, asSeveral, Whole, gives, whole_of, shape_whole, ended, several_by, list_by, map_by, top_at}
 use Rattle.eon_parse.specs.Tops.{further_by, surplus_of}
 use Rattle.eon_parse.specs.Answer.{stop_of, place, Ready}
 use Rattle.eon_parse.specs.Call.{FilledW, FilledO, went_to, ended_by, Roomy, Written, count_of}

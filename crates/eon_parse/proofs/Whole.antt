@@ -9,10 +9,10 @@ use lib.ListN.{length}
 use lib.Dec.{eqb}
 use borrow.Author.Tests.{ne_eqb}
 use Rattle.eon_spec.specs.Utf8.{is_utf8}
-use Rattle.eon_spec.specs.Token.{Token, Invalid, kind_number, is_kind, tokens}
+use Rattle.eon_spec.specs.Token.{Token, kind_number, tokens}
 use Rattle.eon_spec.specs.Tree.{Span, Slice, TokenTree, TokenTrees, KeyValues, tree, list_of, map_of, no_trees, ◌∷ᵗ◌}
 use Rattle.eon_spec.specs.declared.Refusal.{Refusal}
-use Rattle.eon_spec.specs.Parse.{refusal, Cursor, behind, Read, read, refused, bind as bindP, with_prefix, after_comma, TokenList, TokenMap, Reader, list_contents, list_inside, map_inside, inside_at, parsed, none_is_left, top_list, top_of, parse_top, parse}
+use Rattle.eon_spec.specs.Parse.{refusal, Cursor, behind, Read, read, refused, bind as bindP, with_prefix, after_comma, TokenList, TokenMap, Reader, list_contents, list_inside, map_inside, inside_at, none_is_left, top_list, top_of, parse_top, parse}
 use Rattle.eon_laws.proofs.Parse.{inside_at_good}
 use Rattle.eon_spec.specs.Records.{comments, tree_records, trees_records, pairs_records}
 use Rattle.eon_token.specs.Placed.{tokens_at}

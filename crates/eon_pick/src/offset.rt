@@ -11,7 +11,7 @@ use eon_spec::{Answer, Refusal};
 use eon_table::record::{end, start};
 
 // A covered byte, if there is one.
-#[derive(Drop)]
+#[derive(Clone, Copy)]
 pub enum Near {
     Nowhere,
     Byte(usize),

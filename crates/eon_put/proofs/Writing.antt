@@ -5,16 +5,14 @@ use mathlib.Core.Bool.{Bool, true, false}
 use mathlib.Core.List.{List, [], ◌∷◌, ◌++◌, append_assoc, append-nil}
 use native.Mathlib.Numerals.{add-one}
 use Rattle.eon_spec.specs.Layout.{Settings, add_indent}
-use Rattle.eon_spec.specs.Base.{elem}
-use borrow.Author.Tests.{ne_eqb}
 use native.Mathlib.Omega.{arith}
 use native.Mathlib.Nat.{add-zero, add-suc, suc-add}
 use native.Mathlib.Decide.{dec_le}
 use lib.ListN.{length, take, drop, length-append, length-drop, set, get_or}
-use lib.Seq.{sets, length-sets, set_out, take-suc, get_or-drop, drop-cons, length-take-le, take-add}
+use lib.Seq.{sets, length-sets, set_out, take-suc, get_or-drop, length-take-le, take-add}
 use Rattle.eon_put.specs.Put.{Wrote, written}
 use Rattle.eon_table.specs.Words.{part}
-use Rattle.eon_table.proofs.Parts.{part_length, part_past}
+use Rattle.eon_table.proofs.Parts.{part_length}
 
 sets_append : (l : List ℕ) (i : ℕ) (b c : List ℕ) → sets l i (b ++ c) ≡ sets (sets l i b) (i + length b) c
 sets_append l i [] c = ap (λ (k : ℕ). sets l k c) (sym (add-zero i))

@@ -1,4 +1,2 @@
 pub mod Stand
 pub mod Examples
-pub mod Typed
-pub mod Local

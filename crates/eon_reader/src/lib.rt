@@ -27,7 +27,7 @@ const GARBLED: u32 = 2;
 
 const STRAY: u32 = 3;
 
-#[derive(Drop)]
+#[derive(Clone, Copy)]
 pub struct Reader<'a> {
     pub text: &'a [u8],
     pub next: usize,

@@ -106,7 +106,7 @@ pub fn show<'a>(
 }
 
 // A mark stands at a place, and where it ends.
-#[derive(Drop)]
+#[derive(Clone, Copy)]
 struct Start {
     yes: bool,
     end: usize,
@@ -141,7 +141,7 @@ fn starts(text: &[u8], from: usize, quote: u32, n: usize) -> Start
 }
 
 // The closing mark is there, and where it begins.
-#[derive(Drop)]
+#[derive(Clone, Copy)]
 struct Closed {
     yes: bool,
     at: usize,
@@ -178,7 +178,7 @@ fn closing(text: &[u8], from: usize, quote: u8, n: usize) -> Closed
 }
 
 // What stands between the quotes: where it begins and ends, and how it is read; or a refusal.
-#[derive(Drop)]
+#[derive(Clone, Copy)]
 pub enum Contents {
     Text(usize, usize, Mode),
     Fault(u32),

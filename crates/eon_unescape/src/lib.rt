@@ -10,7 +10,7 @@ ghost use Rattle.eon_unescape.specs.Views.{kept, between, Formed, NextIs, Reads,
 use eon_escape::{Mode, Step};
 
 // A character, and the place behind it; at the end of the text the place where it was looked for.
-#[derive(Drop)]
+#[derive(Clone, Copy)]
 pub struct Next {
     pub code: u32,
     pub end: usize,
@@ -110,7 +110,7 @@ fn put_char(out: &mut [u8], at: usize, c: u32) -> usize
 }
 
 // A refusal's number or 0, and the length of the value.
-#[derive(Drop)]
+#[derive(Clone, Copy)]
 pub struct Read {
     pub fault: u32,
     pub len: usize,

@@ -23,10 +23,10 @@ pub fn rows(count: usize, seed: u64) -> String {
     out
 }
 
-const HEAD: &str = "use mathlib.Core.Path.{_≡_, refl}
+const HEAD: &str = "use mathlib.Core.Path.{◌≡◌, refl}
 use mathlib.Core.Bool.{true, false}
-use mathlib.Core.List.{[], _∷_}
-use Rattle·eon_rows·proofs.proofs.Computing.{reads, writesBy, settings, shows, tokensOf, ident, compares, bytes}
+use mathlib.Core.List.{[], ◌∷◌}
+use Rattle.eon_rows.proofs.Computing.{reads, writes_by, settings, shows, tokens_of, ident, compares, bytes}
 ";
 
 fn is_row(case: &Case) -> bool {
@@ -64,11 +64,11 @@ fn question(case: &Case) -> (String, &'static str) {
             let braces = options.braces;
             let settings =
                 format!("(settings {indentation} {newline} {space} {separator} {braces})");
-            (format!("writesBy {settings} {}", bytes(text)), "writesBy")
+            (format!("writes_by {settings} {}", bytes(text)), "writes_by")
         }
         Case::Unquote(text) => (format!("shows {}", bytes(text)), "shows"),
         Case::Identifier(text) => (format!("ident {}", bytes(text)), "ident"),
-        Case::Tokens(text) => (format!("tokensOf {}", bytes(text)), "tokensOf"),
+        Case::Tokens(text) => (format!("tokens_of {}", bytes(text)), "tokens_of"),
         Case::Compare(a, b) => (format!("compares {} {}", bytes(a), bytes(b)), "compares"),
     }
 }

@@ -103,8 +103,8 @@ fn agree_fails_where_a_row_differs() {
         std::fs::write(&path, row).expect("the file is written");
         path
     };
-    let good = file("good.rows", "\"1 2\" isWritten \"[1, 2]\"");
-    let bad = file("bad.rows", "\"1\" isWritten \"2\"");
+    let good = file("good.rows", "\"1 2\" is_written \"[1, 2]\"");
+    let bad = file("bad.rows", "\"1\" is_written \"2\"");
     let unread = file("unread.rows", "\"1\" isLike \"2\"");
     let said = |output: &Output| String::from_utf8_lossy(&output.stdout).into_owned();
 

@@ -186,17 +186,17 @@ mod tests {
 
     const FILE: &str = "\
 -- A head : \"1\" equals \"2\"
-use mathlib.Core.List.{[], _∷_}
+use mathlib.Core.List.{[], ◌∷◌}
 
 -- a row
-two-values : \"1 2\" isWritten \"[1, 2]\"
+two_values : \"1 2\" is_written \"[1, 2]\"
 unfolding writes bytes
-two-values = refl
+two_values = refl
 
 table :
-    (\"\" hasRecords 5 ∷ 0 ∷ 0 ∷ 0 ∷ 1 ∷ [])  -- P1
-    × (\"]\" isRefused 6 ∷ 0 ∷ 1 ∷ 0 ∷ 0 ∷ [])  -- P2
-    × (\"'''\" isNoString 18)
+    (\"\" has_records 5 ∷ 0 ∷ 0 ∷ 0 ∷ 1 ∷ [])  -- P1
+    × (\"]\" is_refused 6 ∷ 0 ∷ 1 ∷ 0 ∷ 0 ∷ [])  -- P2
+    × (\"'''\" is_no_string 18)
 unfolding reads shows bytes
 table = (refl, refl, refl)
 
@@ -234,7 +234,7 @@ same = refl
     #[test]
     fn rows_of_a_file() {
         let names: Vec<&str> = rows(FILE).iter().map(|(name, _)| *name).collect();
-        assert_eq!(names, ["two-values", "table", "named", "bare", "same"]);
+        assert_eq!(names, ["two_values", "table", "named", "bare", "same"]);
     }
 
     #[test]
@@ -265,29 +265,29 @@ later : \"// c\\n1\" offset 4 picks 1
 unfolding picks bytes
 later = refl
 
-no-byte : \"\" offset 3 refusedBy 27
+no-byte : \"\" offset 3 refused_by 27
 unfolding picks bytes
 no-byte = refl
 
-blank : \" \" offset 3 refusedBy 27
+blank : \" \" offset 3 refused_by 27
 unfolding picks bytes
 blank = refl
 
-two : \"// c\\n1\" range 3 upTo 6 hits (0 ∷ 0 ∷ 4 ∷ 1 ∷ 5 ∷ 6 ∷ [])
+two : \"// c\\n1\" range 3 up_to 6 hits (0 ∷ 0 ∷ 4 ∷ 1 ∷ 5 ∷ 6 ∷ [])
 unfolding finds bytes
 two = refl
 
-none : \"1\" range 1 upTo 9 hits []
+none : \"1\" range 1 up_to 9 hits []
 unfolding finds bytes
 none = refl
 
 touched :
-    (\"1\" range 0 upTo 1 hits (0 ∷ 0 ∷ 1 ∷ []))
-    × (\"[1]\" range 0 upTo 1 hits (0 ∷ 0 ∷ 3 ∷ 1 ∷ 1 ∷ 2 ∷ []))
+    (\"1\" range 0 up_to 1 hits (0 ∷ 0 ∷ 1 ∷ []))
+    × (\"[1]\" range 0 up_to 1 hits (0 ∷ 0 ∷ 3 ∷ 1 ∷ 1 ∷ 2 ∷ []))
 unfolding finds bytes
 touched = (refl, refl)
 
-unread : \"1\" range 0 upTo one hits []
+unread : \"1\" range 0 up_to one hits []
 unfolding finds bytes
 unread = refl
 ";
@@ -319,7 +319,7 @@ none : \"a: 1\" along \"[]\" takes 1 reaching []
 unfolding looks bytes
 none = refl
 
-no-list : \"a: 1\" along \"[a]\" refusedBy 28
+no-list : \"a: 1\" along \"[a]\" refused_by 28
 unfolding looks bytes
 no-list = refl
 
@@ -328,8 +328,8 @@ wrong :
     × (\"a: 1 a: 2\" along \"[[a]]\" takes 4 reaching ((2 ∷ 4 ∷ []) ∷ []))
     × (\"a: 1 a: 2\" along \"[[a]]\" takes 5 reaching ((4 ∷ 2 ∷ []) ∷ []))
     × (\"a: 1\" along \"[[a] [b]]\" takes 3 reaching ((2 ∷ []) ∷ []))
-    × (\"a: 1\" along \"[[a]]\" refusedBy 28)
-    × (\"a: ]\" along \"[a]\" refusedBy 28)
+    × (\"a: 1\" along \"[[a]]\" refused_by 28)
+    × (\"a: ]\" along \"[a]\" refused_by 28)
 unfolding looks bytes
 wrong = (refl, refl, refl, refl, refl, refl)
 ";

@@ -225,14 +225,14 @@ impl<'t> Parser<'t> {
     /// A row's own word, between a text and what is said of it.
     fn relation(&mut self, text: Vec<u8>) -> Option<Fact> {
         let (case, numbers) = match self.word()? {
-            "hasTokens" => (Case::Tokens(text), accepted(self.list()?)),
-            "hasRecords" => (Case::Read(text), accepted(self.list()?)),
-            "isRefused" => (Case::Read(text), self.list()?),
-            "isWritten" => (Case::Format(text, Options::default()), self.answer()?),
-            "unquotesTo" => (Case::Unquote(text), self.answer()?),
-            "isNoString" => (Case::Unquote(text), self.unplaced()?),
+            "has_tokens" => (Case::Tokens(text), accepted(self.list()?)),
+            "has_records" => (Case::Read(text), accepted(self.list()?)),
+            "is_refused" => (Case::Read(text), self.list()?),
+            "is_written" => (Case::Format(text, Options::default()), self.answer()?),
+            "unquotes_to" => (Case::Unquote(text), self.answer()?),
+            "is_no_string" => (Case::Unquote(text), self.unplaced()?),
             "equals" => (Case::Compare(text, self.text()?), vec![0, 1]),
-            "differsFrom" => (Case::Compare(text, self.text()?), vec![0, 0]),
+            "differs_from" => (Case::Compare(text, self.text()?), vec![0, 0]),
             "offset" => return self.record_at(text),
             "range" => return self.records_in(text),
             "along" => return self.lookup(text),
@@ -249,7 +249,7 @@ impl<'t> Parser<'t> {
         };
         let numbers = match self.word()? {
             "picks" => accepted(vec![self.number()?]),
-            "refusedBy" => self.unplaced()?,
+            "refused_by" => self.unplaced()?,
             _ => return None,
         };
         Some(Fact::whole(Question::RecordAt(click), numbers))
@@ -258,7 +258,7 @@ impl<'t> Parser<'t> {
     /// A range, and its hits in a list that has room for all: three numbers each.
     fn records_in(&mut self, text: Vec<u8>) -> Option<Fact> {
         let start = self.count()?;
-        self.expect(&Token::Word("upTo"))?;
+        self.expect(&Token::Word("up_to"))?;
         let end = self.count()?;
         self.expect(&Token::Word("hits"))?;
         let selection = Selection {
@@ -283,7 +283,7 @@ impl<'t> Parser<'t> {
                 self.expect(&Token::Word("reaching"))?;
                 accepted([vec![steps], counted(self.lists()?)].concat())
             }
-            "refusedBy" => self.unplaced()?,
+            "refused_by" => self.unplaced()?,
             _ => return None,
         };
         Some(Fact::whole(Question::Lookup(search), numbers))
@@ -297,9 +297,9 @@ impl<'t> Parser<'t> {
     fn call(&mut self) -> Option<Case> {
         let case = match self.word()? {
             "reads" => Case::Read(self.bytes()?),
-            "tokensOf" => Case::Tokens(self.bytes()?),
+            "tokens_of" => Case::Tokens(self.bytes()?),
             "writes" => Case::Format(self.bytes()?, Options::default()),
-            "writesBy" => {
+            "writes_by" => {
                 let options = self.settings()?;
                 Case::Format(self.bytes()?, options)
             }
@@ -445,17 +445,17 @@ mod tests {
         let text = || b"a".to_vec();
         for (statement, case, numbers) in [
             (
-                "\"a\" hasTokens 10 ∷ 0 ∷ 1 ∷ []",
+                "\"a\" has_tokens 10 ∷ 0 ∷ 1 ∷ []",
                 Case::Tokens(text()),
                 &[0, 10, 0, 1][..],
             ),
-            ("\"a\" hasTokens []", Case::Tokens(text()), &[0]),
-            ("\"a\" hasRecords 1 ∷ []", Case::Read(text()), &[0, 1]),
-            ("\"a\" isRefused 13 ∷ 0 ∷ []", Case::Read(text()), &[13, 0]),
-            ("\"a\" isWritten \"b\"", written(b"a"), &[0, 98]),
-            ("\"a\" unquotesTo \"\"", Case::Unquote(text()), &[0]),
+            ("\"a\" has_tokens []", Case::Tokens(text()), &[0]),
+            ("\"a\" has_records 1 ∷ []", Case::Read(text()), &[0, 1]),
+            ("\"a\" is_refused 13 ∷ 0 ∷ []", Case::Read(text()), &[13, 0]),
+            ("\"a\" is_written \"b\"", written(b"a"), &[0, 98]),
+            ("\"a\" unquotes_to \"\"", Case::Unquote(text()), &[0]),
             (
-                "\"a\" isNoString 17",
+                "\"a\" is_no_string 17",
                 Case::Unquote(text()),
                 &[17, 0, 0, 0, 0],
             ),
@@ -465,7 +465,7 @@ mod tests {
                 &[0, 1],
             ),
             (
-                "\"a\" differsFrom \"b\"",
+                "\"a\" differs_from \"b\"",
                 Case::Compare(text(), b"b".to_vec()),
                 &[0, 0],
             ),
@@ -496,20 +496,20 @@ mod tests {
                 "\"a\" offset 18446744073709551615 picks 0",
                 at(usize::MAX, &[0, 0]),
             ),
-            ("\"a\" offset 0 refusedBy 27", at(0, &[27, 0, 0, 0, 0])),
+            ("\"a\" offset 0 refused_by 27", at(0, &[27, 0, 0, 0, 0])),
             (
-                "\"a\" range 2 upTo 5 hits (1 ∷ 2 ∷ 3 ∷ [])",
+                "\"a\" range 2 up_to 5 hits (1 ∷ 2 ∷ 3 ∷ [])",
                 within(2, 5, &[0, 1, 2, 3]),
             ),
             (
-                "\"a\" range 0 upTo 18446744073709551615 hits []",
+                "\"a\" range 0 up_to 18446744073709551615 hits []",
                 within(0, usize::MAX, &[0]),
             ),
             (
                 "\"a\" along \"b\" takes 7 reaching ((2 ∷ 4 ∷ []) ∷ [] ∷ [])",
                 along(&[0, 7, 2, 2, 4, 0]),
             ),
-            ("\"a\" along \"b\" refusedBy 28", along(&[28, 0, 0, 0, 0])),
+            ("\"a\" along \"b\" refused_by 28", along(&[28, 0, 0, 0, 0])),
         ] {
             assert_eq!(fact(statement), expected, "{statement}");
         }
@@ -552,7 +552,7 @@ mod tests {
         let text = || b"a".to_vec();
         for (call, case) in [
             ("reads (bytes \"a\")", Case::Read(text())),
-            ("tokensOf (97 ∷ [])", Case::Tokens(text())),
+            ("tokens_of (97 ∷ [])", Case::Tokens(text())),
             ("writes (bytes \"a\")", written(b"a")),
             ("shows (bytes \"a\")", Case::Unquote(text())),
             ("ident []", Case::Identifier(vec![])),
@@ -569,7 +569,7 @@ mod tests {
         };
         assert_eq!(
             fact(
-                "writesBy (settings (bytes \"i\") (bytes \"n\") [] (0xFF ∷ []) true) (bytes \"a\")\n    ≡ 0 ∷ bytes \"b\""
+                "writes_by (settings (bytes \"i\") (bytes \"n\") [] (0xFF ∷ []) true) (bytes \"a\")\n    ≡ 0 ∷ bytes \"b\""
             ),
             whole(Case::Format(text(), options), &[0, 98])
         );
@@ -617,14 +617,14 @@ mod tests {
             (r"\\n", b"\\n"),
         ] {
             let expected = whole(Case::Unquote(bytes.to_vec()), &[18, 0, 0, 0, 0]);
-            assert_eq!(fact(&format!("\"{text}\" isNoString 18")), expected);
+            assert_eq!(fact(&format!("\"{text}\" is_no_string 18")), expected);
         }
     }
 
     #[test]
     fn products() {
         let facts = facts(
-            "\n    (\"\" isWritten \"\")  -- P1\n    × (reads (bytes \"a\") ≡ 5 ∷ [])  -- (P2\n    × (\"b\" equals \"b\")\n",
+            "\n    (\"\" is_written \"\")  -- P1\n    × (reads (bytes \"a\") ≡ 5 ∷ [])  -- (P2\n    × (\"b\" equals \"b\")\n",
         );
         let expected = vec![
             whole(written(b""), &[0]),
@@ -639,10 +639,10 @@ mod tests {
         for statement in [
             "",
             "List ℕ",
-            "\"a\" hasRecords",
-            "\"a\" hasRecords 1 ∷",
-            "\"a\" hasRecords 1 ∷ [] 2",
-            "\"a\" hasRecords 1 ∷ [] × (\"a\" equals \"a\")",
+            "\"a\" has_records",
+            "\"a\" has_records 1 ∷",
+            "\"a\" has_records 1 ∷ [] 2",
+            "\"a\" has_records 1 ∷ [] × (\"a\" equals \"a\")",
             "\"a\" isLike \"a\"",
             "\"a\" equals",
             "\"a equals",
@@ -653,22 +653,22 @@ mod tests {
             "reads bytes \"a\" ≡ 1 ∷ []",
             "reads (256 ∷ []) ≡ 1 ∷ []",
             "reads (encode (97 ∷ [])) ≡ 1 ∷ []",
-            "readText (bytes \"a\") ≡ refusedWith (nowhere 14)",
+            "read_text (bytes \"a\") ≡ refused_with (nowhere 14)",
             "map ident (bytes \"a\" ∷ []) ≡ replicate 1 (0 ∷ [])",
-            "writesBy (settings [] [] [] [] maybe) [] ≡ 0 ∷ []",
+            "writes_by (settings [] [] [] [] maybe) [] ≡ 0 ∷ []",
             "reads [] ≡ 4294967296 ∷ []",
             "reads [] ≡ 18446744073709551616 ∷ []",
-            "\"a\" isNoString 4294967296",
+            "\"a\" is_no_string 4294967296",
             "\"a\" offset 1",
             "\"a\" offset picks 1",
             "\"a\" offset 18446744073709551616 picks 1",
             "\"a\" offset 1 picks []",
             "\"a\" offset 1 hits []",
-            "\"a\" range 1 upTo 2",
+            "\"a\" range 1 up_to 2",
             "\"a\" range 1 2 hits []",
-            "\"a\" range 1 upTo 2 picks 1",
-            "\"a\" range 1 upTo 2 hits 1",
-            "\"a\" range 1 upTo 2 hits (1 ∷ 2 ∷ 3)",
+            "\"a\" range 1 up_to 2 picks 1",
+            "\"a\" range 1 up_to 2 hits 1",
+            "\"a\" range 1 up_to 2 hits (1 ∷ 2 ∷ 3)",
             "\"a\" along \"b\"",
             "\"a\" along [] takes 1 reaching []",
             "\"a\" along \"b\" takes 1",
@@ -682,7 +682,7 @@ mod tests {
             "\"a\" along \"b\" takes 1 reaching ((2 ∷ []) ∷ []",
             "\"a\" along \"b\" takes 1 reaching (2 ∷ 3) ∷ []",
             "\"a\" along \"b\" takes 1 reaching [] []",
-            "\"a\" along \"b\" refusedBy",
+            "\"a\" along \"b\" refused_by",
             "\"a\" along \"b\" picks 1",
             "(\"a\" equals \"a\") ×",
         ] {

@@ -1,0 +1,9 @@
+use Rattle.std.proofs.Common.{ap, ◌∙◌, List, ℕ, Bor}
+use Rattle.eon_token.specs.Placed.{placed_at}
+use Rattle.eon_reader.proofs.Stand.{first_is}
+use Rattle.eon_reader.proofs.first.Goals as goal
+
+pub returns : goal.returns
+returns c =
+    let e = c.new-r.ensures in
+    c.next.ensures.0 ∙ ap (λ (x : Bor (List ℕ)). placed_at x.now c.new-r.result.next) e.0 ∙ ap (placed_at c.args.text.now) e.1 ∙ first_is c.args.text.now
