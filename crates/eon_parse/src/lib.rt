@@ -480,7 +480,7 @@ fn refused(text: &[u8], w: Walk) -> Bare
 // ---- the counting pass
 
 // A value with its comments (parse_token_tree). Its suffix comment is no record yet: a comma may replace it.
-#[cycle(core_list_map_value)]
+#[cycle(counting)]
 fn value(text: &[u8], table: &[u32], w: Walk, depth: usize) -> Got
     requires { Ready text.now w.cursor w.count }
     ensures { result ≡ counted text.now table.now w (reader depth text.now (place w)) }
@@ -502,7 +502,7 @@ fn value(text: &[u8], table: &[u32], w: Walk, depth: usize) -> Got
 }
 
 // A value behind its prefix comments.
-#[cycle(core_list_map_value)]
+#[cycle(counting)]
 fn core(text: &[u8], table: &[u32], w: Walk, depth: usize) -> Bare
     requires { Ready text.now w.cursor w.count }
     ensures { result ≡ bared text.now table.now w (bare_at text.now (below depth text.now) (place w)) }
@@ -541,7 +541,7 @@ fn core(text: &[u8], table: &[u32], w: Walk, depth: usize) -> Bare
 }
 
 // The inside of a list or a variant (parse_list_contents): values up to a closing token, and the comments before it.
-#[cycle(core_list_map_value)]
+#[cycle(counting)]
 fn list(text: &[u8], table: &[u32], w: Walk, depth: usize) -> Bare
     requires { Ready text.now w.cursor w.count }
     ensures { result ≡ bared text.now table.now w (inside text.now (one text.now (below depth text.now)) (place w)) }
@@ -565,7 +565,7 @@ fn list(text: &[u8], table: &[u32], w: Walk, depth: usize) -> Bare
 }
 
 // The inside of a map (parse_map_contents): keys and values.
-#[cycle(core_list_map_value)]
+#[cycle(counting)]
 fn map(text: &[u8], table: &[u32], w: Walk, depth: usize) -> Bare
     requires { Ready text.now w.cursor w.count }
     ensures { result ≡ bared text.now table.now w (inside text.now (two text.now (below depth text.now)) (place w)) }
@@ -725,7 +725,7 @@ fn fill_close(
     }
 }
 
-#[cycle(fill_core_fill_list_fill_map_fill_value)]
+#[cycle(filling)]
 fn fill_value(text: &[u8], table: &mut [u32], w: Walk, depth: usize) -> Got
     requires { Ready text.now w.cursor w.count }
     ensures { FilledI text.now table.old w (reader depth text.now (place w)) result table.new }
@@ -746,7 +746,7 @@ fn fill_value(text: &[u8], table: &mut [u32], w: Walk, depth: usize) -> Got
     }
 }
 
-#[cycle(fill_core_fill_list_fill_map_fill_value)]
+#[cycle(filling)]
 fn fill_core(text: &[u8], table: &mut [u32], w: Walk, depth: usize) -> Bare
     requires { Ready text.now w.cursor w.count }
     ensures { FilledB text.now table.old w (bare_at text.now (below depth text.now) (place w)) result table.new }
@@ -787,7 +787,7 @@ fn fill_core(text: &[u8], table: &mut [u32], w: Walk, depth: usize) -> Bare
     refused(text, w)
 }
 
-#[cycle(fill_core_fill_list_fill_map_fill_value)]
+#[cycle(filling)]
 fn fill_list(text: &[u8], table: &mut [u32], w: Walk, depth: usize) -> Bare
     requires { Ready text.now w.cursor w.count }
     ensures { FilledB text.now table.old w (inside text.now (one text.now (below depth text.now)) (place w)) result table.new }
@@ -811,7 +811,7 @@ fn fill_list(text: &[u8], table: &mut [u32], w: Walk, depth: usize) -> Bare
     Bare::Done(f)
 }
 
-#[cycle(fill_core_fill_list_fill_map_fill_value)]
+#[cycle(filling)]
 fn fill_map(text: &[u8], table: &mut [u32], w: Walk, depth: usize) -> Bare
     requires { Ready text.now w.cursor w.count }
     ensures { FilledB text.now table.old w (inside text.now (two text.now (below depth text.now)) (place w)) result table.new }

@@ -3,7 +3,7 @@ use lib.ListN.{length}
 use Rattle.eon_parse.specs.Walk.{stops, one, two, below}
 use Rattle.eon_parse.proofs.Fill.{page, filling}
 use Rattle.eon_parse.proofs.Pass.{Inv}
-use Rattle.eon_parse.proofs.+fill_core_fill_list_fill_map_fill_value.Given as goal
+use Rattle.eon_parse.proofs.+filling.Given as goal
 
 abbrev pub decreases-fill_core : goal.decreases-fill_core
 decreases-fill_core l = 4 * l.depth + 2

@@ -3,7 +3,7 @@ use lib.ListN.{length}
 use Rattle.eon_parse.specs.Walk.{stops, one, two, below}
 use Rattle.eon_parse.proofs.Count.{counting}
 use Rattle.eon_parse.proofs.Pass.{Inv}
-use Rattle.eon_parse.proofs.+core_list_map_value.Given as goal
+use Rattle.eon_parse.proofs.+counting.Given as goal
 
 abbrev pub decreases-core : goal.decreases-core
 decreases-core l = 4 * l.depth + 2

@@ -17,7 +17,7 @@ use Rattle.eon_parse.proofs.Laws.{was_refused, was_done, was_stopped, was_value,
 use Rattle.eon_parse.proofs.Left.{below_far, bare_far, list_reach, map_reach, strings_lt}
 use Rattle.eon_parse.proofs.Count.{counting, ran_to, is_refused, is_done, is_stopped, is_value_lem, closed_is, ready_bare, none_is}
 use Rattle.eon_parse.proofs.Pass.{ready_at, peeks_kind, emit_ready, entered_ready, inv_start, inv_ready, inv_turn, ran_is, pre_ready, one_stop, two_stop, value_ready, one_next, key_ready, colon_stop, colon_ready, value_stop, second_ready, two_next, inside_stop, inside_got, sealed_leaf, bare_identifier, bare_number, bare_list, bare_map, bare_string, bare_none, string_variant, string_leaf, value_refused, value_is}
-use Rattle.eon_parse.proofs.+core_list_map_value.Goals as goal
+use Rattle.eon_parse.proofs.+counting.Goals as goal
 
 pub core-enter-d-requires : goal.core-enter-d-requires
 core-enter-d-requires t c = let s = c.args.text.now in

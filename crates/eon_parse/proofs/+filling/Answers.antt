@@ -16,7 +16,7 @@ use Rattle.eon_parse.proofs.Laws.{not_expected, was_expected, Came, passed, read
 use Rattle.eon_parse.proofs.Left.{below_far, bare_far, list_reach, map_reach, strings_lt}
 use Rattle.eon_parse.proofs.Fill.{page, filling, both, filled_to, settled_to, fill_refused, fill_done, fill_stopped, fill_value, fills_refused, fills_done, fills_stopped, fills_value, fill_closed, fill_ready, none_fill}
 use Rattle.eon_parse.proofs.Pass.{ready_at, peeks_kind, emit_ready, entered_ready, inv_start, inv_ready, inv_turn, ran_is, pre_ready, one_stop, two_stop, value_ready, one_next, key_ready, colon_stop, colon_ready, value_stop, second_ready, two_next, inside_stop, inside_got, sealed_leaf, bare_identifier, bare_number, bare_list, bare_map, bare_string, bare_none, string_variant, string_leaf, value_refused, value_is}
-use Rattle.eon_parse.proofs.+fill_core_fill_list_fill_map_fill_value.Goals as goal
+use Rattle.eon_parse.proofs.+filling.Goals as goal
 
 pub fill_core-enter-d-requires : goal.fill_core-enter-d-requires
 fill_core-enter-d-requires t c = let s = c.args.text.now in
