@@ -2,6 +2,9 @@
 // that could not be read whole is not laid out: what is missing might be a bye.
 #![tactic(auto)]
 
+ghost use Rattle.std.specs.Prelude.{◌≤◌, ◌<◌, length, take, IfOk};
+ghost use Rattle.std.specs.Io.KnownBytes.{Consumes, IsAtEnd};
+
 use eon_spec::{Answer, Refusal};
 use std::io;
 use std::io::{ErrorKind, Read, Write};
@@ -19,7 +22,11 @@ const INTERRUPTS: usize = 1000;
 
 // The length of what was read to the end, as far as there is room, or a read that failed. The end is a read of no bytes and
 // nothing else.
-fn read_input(input: &mut impl Read, text: &mut [u8]) -> io::Result<usize> {
+fn read_input<R: Read>(input: &mut R, text: &mut [u8]) -> io::Result<usize>
+    ensures fits { IfOk result (λ n. n ≤ length text.new) }
+    ensures given { IfOk result (λ n. Consumes (R.remaining input.old) (R.remaining input.new) (take n text.new)) }
+    ensures whole { IfOk result (λ n. n < length text.new → IsAtEnd (R.remaining input.new)) }
+{
     let mut n = 0;
     let mut interrupts = INTERRUPTS;
     while n < text.len() {
