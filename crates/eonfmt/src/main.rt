@@ -8,6 +8,7 @@ ghost use Rattle.std.specs.Io.KnownBytes.{Consumes, IsAtEnd};
 use eon_spec::{Answer, Refusal};
 use std::io;
 use std::io::{ErrorKind, Read, Write};
+use std::process::ExitCode;
 
 // A byte more than a text has at most, so that a full buffer is refused by 1.
 const TEXT_BYTES: usize = 65536;
@@ -89,18 +90,20 @@ fn lay_out(to: &mut impl Write, text: &[u8]) -> io::Result<()> {
     write_answer(to, answer, &out)
 }
 
-// Why standard input or output failed is told on standard error, where that can be written.
-fn tell(rt: &impl Eprint, stream: &str, e: io::Error) {
+// Why standard input or output failed is told on standard error, where that can be written, and by the exit status.
+fn tell(rt: &impl Eprint, stream: &str, e: io::Error) -> ExitCode {
     let _ = eprintln!(rt; "eonfmt: standard {stream}: {e}");
+    ExitCode::FAILURE
 }
 
-fn main(rt: HostRuntime) {
+fn main(rt: HostRuntime) -> ExitCode {
     let mut text = [0u8; TEXT_BYTES];
     match read_input(&mut rt.stdin(), &mut text) {
         Err(e) => tell(&rt, "input", e),
         Ok(n) => {
-            if let Err(e) = lay_out(&mut rt.stdout(), front(&text, n)) {
-                tell(&rt, "output", e);
+            match lay_out(&mut rt.stdout(), front(&text, n)) {
+                Err(e) => tell(&rt, "output", e),
+                Ok(()) => ExitCode::SUCCESS,
             }
         }
     }
