@@ -1,7 +1,7 @@
 -- The trees that are read back: what reading and layout ask of a tree without comments.
 use mathlib.Core.Path.{◌≡◌, sym, ap, subst}
 use mathlib.Core.Bool.{true}
-use mathlib.Core.List.{List, ◌∷◌}
+use mathlib.Core.List.{List}
 use Prim.Native.Nat.{ℕ, zero, suc}
 use Rattle.eon_spec.specs.Utf8.{chars}
 use Rattle.eon_spec.specs.Token.{TokenKind, Identifier, Number, longest_rule, rules}

@@ -1,3 +1,2 @@
 // Reading undoes layout.
 #![tactic(auto)]
-

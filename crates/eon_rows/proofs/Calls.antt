@@ -12,8 +12,8 @@ use Rattle.eon_spec.specs.declared.Compared.TheVariants as compared
 use Rattle.eon_spec.specs.declared.Unquoted.TheVariants as unquoted
 use Rattle.eon_spec.specs.Parse.{refusal}
 use Rattle.eon_spec.specs.Layout.{setting, settings_of, defaults, default_options}
-use Rattle.eon_spec.specs.Calls.{done, refused_with, nowhere, place, After, after, after_both, Part, part_of, read_call, format_call, reformat_call, fill_both, compare_call, checked_settings, unquote_call, show_call, shown_place, compared_outcome, unquoted_outcome}
-use Rattle.eon_rows.proofs.Computing.{reads, writes, bytes, compares, shows}
+use Rattle.eon_spec.specs.Calls.{done, refused_with, nowhere, place, after, after_both, Part, part_of, read_call, format_call, reformat_call, fill_both, compare_call, checked_settings, unquote_call, show_call, shown_place, compared_outcome, unquoted_outcome}
+use Rattle.eon_rows.proofs.Computing.{writes, bytes, compares, shows}
 
 -- the words of `1 2` and of `1`
 abbrev words12 : List ℕ

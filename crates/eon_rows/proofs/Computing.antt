@@ -15,7 +15,7 @@ use Rattle.eon_spec.specs.Unquote.{unquote, unquote_chars, unescape, is_valid_id
 use Rattle.eon_spec.specs.declared.Hit.{Hit}
 use Rattle.eon_spec.specs.Pick.{picked, record_at_call, records_in_call}
 use Rattle.eon_spec.specs.Lookup.{paths_max, Looked, path_list, reached, steps, looked, lookup_call}
-use Rattle.eon_spec.specs.Calls.{nowhere, Outcome, done, refused_with, then, checked, read_text, fill, read_call, read_finished, is_finished, compare_call, unquote_call, unescaped_outcome, show_call}
+use Rattle.eon_spec.specs.Calls.{nowhere, Outcome, done, refused_with, then, checked, read_text, fill, read_call, read_finished, is_finished, compare_call, unquote_call, show_call}
 
 -- an answer as numbers: 0 and the answer, or the five numbers of a refusal
 abbrev pub plain : Outcome (List ℕ) → List ℕ

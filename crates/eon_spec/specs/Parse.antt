@@ -1,5 +1,5 @@
 -- From tokens to a tree (parse.rs; document 01, "Reading the sheet"), with the refusals 3 to 13.
-use Rattle.std.specs.Prelude.{ℕ, zero, suc, ◌+◌, Bool, true, false, ◌&&◌, not, cond, List, [], ◌∷◌, ◌++◌, length, ltb}
+use Rattle.std.specs.Prelude.{ℕ, zero, suc, Bool, true, false, ◌&&◌, not, cond, List, [], ◌∷◌, ◌++◌, length, ltb}
 use Rattle.std.proofs.Math.Option.{Option, none, some}
 use Rattle.eon_spec.specs.declared.Refusal.{Refusal}
 use Rattle.eon_spec.specs.Base.{elem}
