@@ -80,7 +80,7 @@ unfolding chars chars_from
 char_alone [] h = absurd h
 char_alone (b ∷ s) h = rw (h, chars_from, chars_over s, take-length s)
 
--- characters in a row are well_formed, and are the characters of the row
+-- characters in a row are well-formed, and are the characters of the row
 pub all_formed : (cs : List Character) → AllChars cs → well_formed_len (joined cs) ≡ length (joined cs)
 unfolding well_formed_len
 all_formed [] h = no_bytes

@@ -22,7 +22,7 @@ module _ {A : Type 0} (s : List ℕ) (f : List ℕ → Outcome A) where
   unfolding checked
   checked_good h u = rw (le-ltb 65535 (length s) h, checked, u)
 
--- a text that is well_formed to its end
+-- a text that is well-formed to its end
 pub good_text : (s : List ℕ) (n : ℕ) → n ≡ well_formed_len s → n ≡ length s → is_utf8 s ≡ true
 unfolding is_utf8
 good_text s n e f = eq-eqb (well_formed_len s) (length s) (sym e ∙ f)

@@ -1,4 +1,4 @@
--- Encoding undoes decoding: a character is the bytes of its code point, and a well_formed text those of its code points.
+-- Encoding undoes decoding: a character is the bytes of its code point, and a well-formed text those of its code points.
 use mathlib.Core.Path.{◌≡◌, refl, sym, ◌∙◌, ap}
 use mathlib.Core.Logic.{◌⊎◌, inl, inr}
 use mathlib.Core.Bool.{Bool, true, false}
@@ -140,7 +140,7 @@ unfolding encode
 chars_encoded [] h = refl
 chars_encoded (c ∷ cs) h = rw (char_encoded c h.0, chars_encoded cs h.1)
 
--- a well_formed text is the encoding of its code points
+-- a well-formed text is the encoding of its code points
 pub encode_decode : (s : List ℕ) → is_utf8 s ≡ true → encode (decode s) ≡ s
 unfolding decode chars is_utf8 well_formed_len
 encode_decode s e = chars_encoded (chars s) (chars_are 0 s) ∙ chars_concat 0 s (omega arith) (eq_of (well_formed_len s) (length s) e)

@@ -297,7 +297,7 @@ module _ (s : List ℕ) (formed : is_utf8 s ≡ true) (v : List ℕ) where
           (omega arith, rw (o, behind) (take-append_seam (encode v) m))
 
 module _ (s scratch : List ℕ) where
-  -- what a call that answers gave: a well_formed text, its value v, and where it is handed back
+  -- what a call that answers gave: a well-formed text, its value v, and where it is handed back
   record Answered (p : Part) (m : List ℕ) : Type 0 where
     formed : is_utf8 s ≡ true
     v : List ℕ

@@ -56,7 +56,7 @@ pub char_length : (x : ℕ) (s : List ℕ) (k : ℕ) → char_len (x ∷ s) ≡ 
 unfolding char_len
 char_length x s k e = len_if_length (row_of table37 x) s k e
 
--- the characters of a well_formed text stay, whatever stands behind it
+-- the characters of a well-formed text stay, whatever stands behind it
 pub chars_append : (k : ℕ) (a b : List ℕ) → k ≤ length a → well_formed_from k a ≡ length a → chars_from k (a ++ b) ≡ chars_from k a ++ chars_from 0 b
 unfolding well_formed_from chars_from
 chars_append zero [] b h e = refl
@@ -71,7 +71,7 @@ chars_append zero (x ∷ a) b h e = go (char_len (x ∷ a)) refl e (λ k. chars_
         let l = char_length x a k p in
         rw (p, char_append x a b k p, chars_from) (rw (take-append-le k a b l, f k l (omega arith)))
 
--- a well_formed text is its characters in a row
+-- a well-formed text is its characters in a row
 pub chars_concat : (k : ℕ) (a : List ℕ) → k ≤ length a → well_formed_from k a ≡ length a → joined (chars_from k a) ≡ drop k a
 unfolding well_formed_from chars_from
 chars_concat zero [] h e = refl
@@ -85,7 +85,7 @@ chars_concat zero (x ∷ a) h e = go (char_len (x ∷ a)) refl e (λ k. chars_co
         let z = rw (p, well_formed_from) at e in
         rw (p, chars_from) (rw (f k (char_length x a k p) (omega arith), take-append-drop k a))
 
--- a well_formed text and another behind it are well_formed
+-- a well-formed text and another behind it are well-formed
 pub well_formed_append : (k : ℕ) (a b : List ℕ) → k ≤ length a → well_formed_from k a ≡ length a → well_formed_from 0 b ≡ length b → well_formed_from k (a ++ b) ≡ length a + length b
 unfolding well_formed_from
 well_formed_append zero [] b h e f = rw f (omega arith)

@@ -382,7 +382,7 @@ module _ (s : List ℕ) where
     pub fewer_comma : (cs : List Slice) (v : TokenTree) (i : Item) (n : Span) (t : Settled cs v i n) → length (tokens_at s t.to.end false) ≤ length (tokens_at s n.end false)
     fewer_comma cs v i n t = omega (arith, comma_le v (C n), ap (λ (p : TokenTree × Cursor). length (rest p.1)) t.parsed)
 
-    -- the body of `listContents` behind its comments
+    -- the body of `list_contents` behind its comments
     abbrev pub list_more : ℕ → List Slice → TokenTree → Cursor → Read TokenList
     list_more f cs v c1 =
         let vc = after_comma v c1 in

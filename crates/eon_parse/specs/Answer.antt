@@ -28,7 +28,7 @@ stop_of r e = record { refusal = r; consumed = e }
 abbrev pub place : Walk → Span
 place w = place_of w.cursor
 
--- a cursor that stands in a short well_formed text, behind at least as many bytes as there are records
+-- a cursor that stands in a short well-formed text, behind at least as many bytes as there are records
 pub record Ready (s : List ℕ) (c : Cursor) (n : ℕ) : Type 0 where
   pub short : length s ≤ 65535
   pub bound : Spot s (place_of c)

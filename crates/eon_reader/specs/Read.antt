@@ -1,4 +1,4 @@
--- Where a reader may stand in a text, where it starts, and what it reads of a text that need not be well_formed.
+-- Where a reader may stand in a text, where it starts, and what it reads of a text that need not be well-formed.
 use Rattle.std.specs.Prelude.{◌≡◌, true, false, cond, List, [], ◌∷◌, ℕ, length}
 use Rattle.std.proofs.Math.Option.{Option, none, some}
 use Rattle.eon_spec.specs.Utf8.{is_utf8, Boundary}
@@ -8,12 +8,12 @@ use Rattle.eon_spec.specs.Calls.{Outcome, done, refused_with, checked}
 use Rattle.eon_token.specs.Placed.{placed_at}
 use Rattle.eon_token.specs.declared.token_kind.PlacedToken.{PlacedToken}
 
--- at the text's end, or where a character of a well_formed text begins
+-- at the text's end, or where a character of a well-formed text begins
 pub data Stands (s : List ℕ) (at : ℕ) : Type 0 where
   ended : at ≡ length s → Stands s at
   begins : is_utf8 s ≡ true → Boundary s at → Stands s at
 
--- nothing is read of a text that is not well_formed
+-- nothing is read of a text that is not well-formed
 unfoldable pub start_of : List ℕ → ℕ
 start_of s = cond (is_utf8 s) 0 (length s)
 
@@ -41,6 +41,6 @@ unfoldable pub counted : List Token → Outcome ℕ
 counted ts = stray_or (first_invalid ts) (length ts)
 
 -- how many tokens a text has, behind "1 overlong: text over 65,535 bytes; 65535, 65535" and "2 garbled: not UTF-8; twice the
--- length of its longest well_formed beginning"
+-- length of its longest well-formed beginning"
 unfoldable pub count_call : List ℕ → Outcome ℕ
 count_call s = checked s λ t. counted (tokens t)

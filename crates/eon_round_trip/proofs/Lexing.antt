@@ -59,7 +59,7 @@ lex (word k b ∷ ps) at nl g =
     ∙ word_step at nl k (chars b) (chars (flatten ps)) b g.0.begins (concat_chars b g.0.well_formed) g.1
     ∙ ap (λ (ts : List Token). record { kind = k; start = at; end = at + length b; slice = b; new_line = nl } ∷ ts) (lex ps (at + length b) false g.2)
 
--- and they are well_formed
+-- and they are well-formed
 blank_formed : {b : ℕ} → IsBlank b → (s : List ℕ) → well_formed_len s ≡ length s → well_formed_len (b ∷ s) ≡ suc (length s)
 unfolding well_formed_len well_formed_from char_len
 blank_formed tab s e = ap suc e

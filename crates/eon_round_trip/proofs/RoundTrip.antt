@@ -28,7 +28,7 @@ use Rattle.eon_round_trip.proofs.NoComments.{free_tree, free_in, free_all, free_
 use Rattle.eon_round_trip.proofs.Premises.{tree_plain, tree_ready}
 use Rattle.eon_round_trip.proofs.Compare.{compared_equal, equal_compared}
 
--- a text that is read is well_formed, and parses
+-- a text that is read is well-formed, and parses
 pub read_inv : (s : List ℕ) (t : TokenTree) → read_text s ≡ done t → (is_utf8 s ≡ true) × (parse s ≡ parsed t)
 unfolding read_text checked
 read_inv s t e = go (ltb 65535 (length s)) (is_utf8 s) (parse s) refl refl refl e

@@ -86,7 +86,7 @@ first_of_two_faults : reads (0xC3 ∷ 0xA9 ∷ 0xFF ∷ 0xFF ∷ []) ≡ 2 ∷ 2
 unfolding reads
 first_of_two_faults = refl
 
--- ---- what is well_formed is read: as strings, since no token holds such characters otherwise
+-- ---- what is well-formed is read: as strings, since no token holds such characters otherwise
 
 -- the first and the last character of two bytes
 edges_of_two : reads (0x27 ∷ 0xC2 ∷ 0x80 ∷ 0xDF ∷ 0xBF ∷ 0x27 ∷ []) ≡ 0 ∷ 3 ∷ 0 ∷ 6 ∷ 6 ∷ 1 ∷ []

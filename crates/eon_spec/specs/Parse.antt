@@ -251,6 +251,6 @@ parse_top len ts =
     let value = inside_at len MAX-RECURSION-DEPTH in
     top_of len (map_inside value start) (list_inside value start)
 
--- the tree of a well_formed text (parse_str)
+-- the tree of a well-formed text (parse_str)
 unfoldable pub parse : List ℕ → Parsed
 parse s = parse_top (length s) (tokens s)

@@ -114,11 +114,11 @@ tokens_from zero at nl (c ∷ cs) =
           placed found.0 (suc more) at nl (c ∷ cs) ∷ tokens_from more (at + length c) false cs
     ]
 
--- the tokens of a well_formed text
+-- the tokens of a well-formed text
 unfoldable pub tokens : List ℕ → List Token
 tokens s = tokens_from 0 0 false (chars s)
 
--- the token call: the first token of a well_formed text from a byte position on, which begins a character
+-- the token call: the first token of a well-formed text from a byte position on, which begins a character
 unfoldable pub token_from : List ℕ → ℕ → Option Token
 token_from s at = first (tokens_from 0 at false (chars (drop at s)))
   where

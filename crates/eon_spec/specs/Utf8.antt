@@ -1,5 +1,5 @@
 -- UTF-8: the Unicode standard's Table 3-7, "Well-Formed UTF-8 Byte Sequences". Refusal 2 names the length of a text's longest
--- well_formed beginning, and a token is a run of characters, so both are defined here.
+-- well-formed beginning, and a token is a run of characters, so both are defined here.
 use Rattle.std.specs.Prelude.{ℕ, zero, suc, ◌+◌, ◌*◌, ◌-◌, ◌/◌, ◌%◌, Bool, true, false, ◌&&◌, ◌||◌, cond, ◌≡◌, List, [], ◌∷◌, ◌++◌, map, length, take, ltb, eqb}
 use Prim.Native.String.{String}
 use Rattle.std.proofs.Math.Option.{Option, none, some}
@@ -52,22 +52,22 @@ abbrev pub len_if : Option (List Range) → List ℕ → ℕ
 len_if none s = 0
 len_if (some more) s = elim (fits more s) [ true ↦ suc (length more) | false ↦ 0 ]
 
--- the length of the well_formed character that the text begins with, 0 if there is none
+-- the length of the well-formed character that the text begins with, 0 if there is none
 unfoldable pub char_len : List ℕ → ℕ
 char_len [] = 0
 char_len (b ∷ s) = len_if (row_of table37 b) s
 
--- the bytes of the longest well_formed beginning; `skip` bytes are still of the character before
+-- the bytes of the longest well-formed beginning; `skip` bytes are still of the character before
 unfoldable pub well_formed_from : ℕ → List ℕ → ℕ
 well_formed_from skip [] = 0
 well_formed_from (suc k) (b ∷ s) = suc (well_formed_from k s)
 well_formed_from zero (b ∷ s) = elim (char_len (b ∷ s)) [ zero ↦ 0 | suc k ↦ suc (well_formed_from k s) ]
 
--- the length of the longest well_formed beginning
+-- the length of the longest well-formed beginning
 unfoldable pub well_formed_len : List ℕ → ℕ
 well_formed_len s = well_formed_from 0 s
 
--- the whole text is well_formed
+-- the whole text is well-formed
 unfoldable pub is_utf8 : List ℕ → Bool
 is_utf8 s = eqb (well_formed_len s) (length s)
 

@@ -52,7 +52,7 @@ snoc_same (a ∷ as2) (b ∷ bs) x y e =
     let r = snoc_same as2 bs x y g in
     (rw (f, r.0) refl, r.1)
 
--- ---- a well_formed text's last byte is a character, or the end of one that is no ASCII
+-- ---- a well-formed text's last byte is a character, or the end of one that is no ASCII
 
 abbrev ByteEnds : List ℕ → ℕ → Type 0
 ByteEnds a b =

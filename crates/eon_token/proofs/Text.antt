@@ -1,4 +1,4 @@
--- A well_formed text from a boundary on.
+-- A well-formed text from a boundary on.
 use mathlib.Core.Path.{◌≡◌, refl, sym, ap, ◌∙◌}
 use mathlib.Core.Bool.{true}
 use mathlib.Core.List.{List, [], ◌∷◌, ◌++◌, append_assoc}

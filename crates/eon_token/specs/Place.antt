@@ -7,7 +7,7 @@ use Rattle.eon_spec.specs.Parse as parse
 use Rattle.eon_token.specs.declared.cursor.Cursor.{Cursor}
 use Rattle.eon_token.specs.Placed.{placed_at, tokens_at}
 
--- a span of a well_formed text, behind which a token may begin
+-- a span of a well-formed text, behind which a token may begin
 pub record Spot (s : List ℕ) (l : Span) : Type 0 where
   pub formed : is_utf8 s ≡ true
   pub within : l.end ≤ length s
@@ -43,7 +43,7 @@ cursor_behind s l = parse.behind l (tokens_at s l.end false)
 abbrev pub stands_for : List ℕ → Cursor → parse.Cursor
 stands_for s c = cursor_behind s (place_of c)
 
--- a cursor in a well_formed text that holds the token behind its span
+-- a cursor in a well-formed text that holds the token behind its span
 pub record Standing (s : List ℕ) (c : Cursor) : Type 0 where
   pub bound : Spot s (place_of c)
   pub fresh : c ≡ cursor_at s (place_of c)

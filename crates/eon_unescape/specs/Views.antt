@@ -16,7 +16,7 @@ kept s i = without 13 (decode (drop i s))
 abbrev pub between : List ℕ → ℕ → ℕ → List ℕ
 between s i e = take (e - i) (drop i s)
 
--- well_formed UTF-8
+-- well-formed UTF-8
 abbrev pub Formed : List ℕ → Type 0
 Formed s = well_formed_len s ≡ length s
 

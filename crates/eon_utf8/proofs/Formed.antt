@@ -1,4 +1,4 @@
--- The longest well_formed beginning, character by character.
+-- The longest well-formed beginning, character by character.
 use mathlib.Core.Path.{◌≡◌, refl, sym, ◌∙◌}
 use mathlib.Core.Option.{none, some}
 use mathlib.Core.List.{List, [], ◌∷◌}
