@@ -2,8 +2,10 @@
 // that could not be read whole is not laid out: what is missing might be a bye.
 #![tactic(auto)]
 
-ghost use Rattle.std.specs.Prelude.{◌≤◌, ◌<◌, length, take, IfOk};
-ghost use Rattle.std.specs.Io.KnownBytes.{Consumes, IsAtEnd};
+ghost use Rattle.std.specs.Prelude.{◌≡◌, ◌≤◌, ◌<◌, length, take, IfOk, OnOk};
+ghost use Rattle.std.specs.Io.KnownBytes.{Consumes, IsAtEnd, Appends};
+ghost use Rattle.eon_spec.specs.Calls.{outcome_of};
+ghost use Rattle.eonfmt.specs.Said.{blank_number, refusal_line, said, formatted};
 
 use eon_spec::{Answer, Refusal};
 use std::io;
@@ -49,7 +51,9 @@ fn read_input<R: Read>(input: &mut R, text: &mut [u8]) -> io::Result<usize>
 }
 
 // The first n bytes.
-fn front(bytes: &[u8], n: usize) -> &[u8] {
+fn front(bytes: &[u8], n: usize) -> &[u8]
+    ensures { result.now ≡ take n bytes.now }
+{
     let start = 0;
     if n <= bytes.len() {
         return &bytes[start..n];
@@ -58,11 +62,15 @@ fn front(bytes: &[u8], n: usize) -> &[u8] {
 }
 
 // The functions that write answer whether all was taken.
-fn write_number(to: &mut impl Write, n: usize) -> io::Result<()> {
+fn write_number<W: Write>(to: &mut W, n: usize) -> io::Result<()>
+    ensures { OnOk result (Appends (W.contents to.old) (W.contents to.new) (blank_number n)) }
+{
     write!(to, " {n}")
 }
 
-fn write_refusal(to: &mut impl Write, r: Refusal) -> io::Result<()> {
+fn write_refusal<W: Write>(to: &mut W, r: Refusal) -> io::Result<()>
+    ensures { OnOk result (Appends (W.contents to.old) (W.contents to.new) (refusal_line r)) }
+{
     to.write_all(b"refused")?;
     write_number(to, r.number as usize)?;
     write_number(to, r.start)?;
@@ -70,7 +78,9 @@ fn write_refusal(to: &mut impl Write, r: Refusal) -> io::Result<()> {
     to.write_all(b"\n")
 }
 
-fn write_answer(to: &mut impl Write, answer: Answer, out: &[u8]) -> io::Result<()> {
+fn write_answer<W: Write>(to: &mut W, answer: Answer, out: &[u8]) -> io::Result<()>
+    ensures { OnOk result (Appends (W.contents to.old) (W.contents to.new) (said (outcome_of answer) out.now)) }
+{
     match answer {
         Answer::Done(n) => to.write_all(front(out, n)),
         Answer::Refused(r) => write_refusal(to, r),
@@ -78,7 +88,9 @@ fn write_answer(to: &mut impl Write, answer: Answer, out: &[u8]) -> io::Result<(
 }
 
 // Reading's refusal, or what layout answered.
-fn lay_out(to: &mut impl Write, text: &[u8]) -> io::Result<()> {
+fn lay_out<W: Write>(to: &mut W, text: &[u8]) -> io::Result<()>
+    ensures { OnOk result (Appends (W.contents to.old) (W.contents to.new) (formatted text.now)) }
+{
     let mut table = [0u32; TABLE_WORDS];
     let mut out = [0u8; OUT_BYTES];
     let run = eon_runs::run(text, &mut table, &mut out);
