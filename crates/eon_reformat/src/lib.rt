@@ -86,6 +86,7 @@ fn reformat_in(
 
 // Tables of 2048, 16384 and 65536 records: small texts need no large frame, and pay for clearing a small one only. A function that
 // calls itself is not unfolded into its caller, so that a shorter text does not pay for the stack of a longer one's frame.
+#[inline(never)]
 fn in_small(text: &[u8], table: &mut [u32], options: FormatOptions, out: &mut [u8]) -> Answer
     requires { length text.now ≤ 2047 }
     ensures { after_both (outcome_of result) table.new out.new ≡ reformat_call text.now table.old options out.old }
@@ -95,6 +96,7 @@ fn in_small(text: &[u8], table: &mut [u32], options: FormatOptions, out: &mut [u
 }
 
 // The text is never longer: the branch stands there for its call alone, which keeps this frame out of the caller's.
+#[inline(never)]
 fn in_medium(text: &[u8], table: &mut [u32], options: FormatOptions, out: &mut [u8]) -> Answer
     requires { length text.now ≤ 16383 }
     ensures { after_both (outcome_of result) table.new out.new ≡ reformat_call text.now table.old options out.old }
@@ -107,6 +109,7 @@ fn in_medium(text: &[u8], table: &mut [u32], options: FormatOptions, out: &mut [
 }
 
 // An overlong text is refused as its beginning is.
+#[inline(never)]
 fn in_large(text: &[u8], table: &mut [u32], options: FormatOptions, out: &mut [u8]) -> Answer
     ensures { after_both (outcome_of result) table.new out.new ≡ reformat_call text.now table.old options out.old }
 {

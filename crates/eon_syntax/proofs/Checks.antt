@@ -1,6 +1,6 @@
 -- The layout call behind its checks: 16 first, then what the check of the text and its table says.
 use mathlib.Core.Path.{◌≡◌, refl, sym, ◌∙◌, ap}
-use mathlib.Core.Bool.{Bool, true, false}
+use mathlib.Core.Bool.{true, false}
 use mathlib.Core.List.{List}
 use Prim.Native.Nat.{ℕ}
 use native.Mathlib.Omega.{arith}
@@ -11,7 +11,7 @@ use Rattle.eon_spec.specs.declared.Answer.TheVariants.{Done, Refused}
 use Rattle.eon_spec.specs.declared.FormatOptions.{FormatOptions}
 use Rattle.eon_spec.specs.Tree.{TokenTree}
 use Rattle.eon_spec.specs.Records.{tree_records}
-use Rattle.eon_spec.specs.Calls.{Outcome, done, refused_with, then, After, after, nowhere, fill, outcome_of, read_finished, good_settings, checked_settings, format_call}
+use Rattle.eon_spec.specs.Calls.{Outcome, done, refused_with, then, after, nowhere, fill, outcome_of, read_finished, good_settings, checked_settings, format_call}
 use Rattle.eon_parse.specs.Call.{count_of}
 
 -- what a finished text gives: its tree with as many records as were counted, or its refusal
