@@ -21,7 +21,7 @@ returns-then-t-eq-INVALID c = let u = c.requires in
     let l = c.loop-t in
     let t = c.next_token-t in
     let k = c.if-t-eq-END.false in
-    counts_stray c.args.text.now u l.at l.invariant.0 l.n l.invariant.1 t.result t.ensures k (omega (arith, c.if-t-eq-INVALID.true, k))
+    counts_stray c.args.text.now u l.at l.invariant.0 l.n l.invariant.1 t.result t.ensures k (omega (arith, k))
 
 pub overflow_add-n : goal.overflow_add-n
 overflow_add-n c = let u = c.requires in
@@ -44,4 +44,4 @@ loop-t-preserved c = let s = c.args.text.now in
     let t = c.next_token-t in
     let k = c.if-t-eq-END.false in
     let w = bounds s u l.at l.invariant.0 t.result t.ensures k in
-    (end_boundary s u l.at l.invariant.0 t.result t.ensures, counts_more s u l.at l.invariant.0 l.n l.invariant.1 t.result t.ensures k (λ z. omega (arith, z, c.if-t-eq-INVALID.false)), omega (arith, l.invariant.2, w.0, w.1))
+    (end_boundary s u l.at l.invariant.0 t.result t.ensures, counts_more s u l.at l.invariant.0 l.n l.invariant.1 t.result t.ensures k (λ z. omega (arith, z)), omega (arith, l.invariant.2, w.0, w.1))

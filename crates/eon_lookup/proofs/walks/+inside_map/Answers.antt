@@ -65,7 +65,7 @@ loop-next-smaller-then-n-eq0 t c = let a = c.args in
 pub loop-next-preserved-then-n-eq0 : goal.loop-next-preserved-then-n-eq0
 loop-next-preserved-then-n-eq0 t c = let a = c.args in
     let b = c.match_key-n.ensures in
-    let e : c.match_key-n.result ≡ 0 = c.if-n-eq0.true in (
+    let e : c.match_key-n.result ≡ 0 = omega arith in (
       b.size,
       b.room,
       λ kvs cl h. turn a.text.now a.table.now (a.i + c.size.result) a.paths.now a.keys.now a.d a.live.now (kvs) (cl) (a.i + 1) a.answers.now c.loop-next.answers c.loop-next.j c.loop-next.steps (c.loop-next.invariant.2 (kvs) (cl) (h)) (sym c.more.ensures ∙ c.loop-next-test.true) c.after_prefix-k.result c.next_tree-v.result c.after_prefix-w.result c.after_prefix-k.ensures c.next_tree-v.ensures c.after_prefix-w.ensures c.next_tree-j.result c.next_tree-j.ensures c.requires.3 c.match_key-n.new.answers c.match_key-n.new.next c.match_key-n.result b c.match_key-n.new.answers 0
@@ -118,7 +118,7 @@ inside_map-steps-requires t c =
     let there = value_is a.text.now a.table.now (a.i + c.size.result) a.paths.now a.keys.now a.d a.live.now kvs cl (a.i + 1) a.answers.now c.loop-next.answers c.loop-next.j c.loop-next.steps (c.loop-next.invariant.2 kvs cl h) (sym c.more.ensures ∙ c.loop-next-test.true) c.after_prefix-k.result c.next_tree-v.result c.after_prefix-w.result c.after_prefix-k.ensures c.next_tree-v.ensures c.after_prefix-w.ensures in
     let m = map_at_lem a.text.now a.table.now c.after_prefix-w.result val there (sym c.kind.ensures.0 ∙ c.if-kind-ne-MAP.false) in
     let many = matched_length a.paths.now a.keys.now a.d (key_here a.text.now a.table.now c.after_prefix-k.result) a.live.now c.after_prefix-w.result c.loop-next.answers c.match_key-n.new.answers c.match_key-n.new.next c.match_key-n.result c.requires.2 c.match_key-n.ensures in
-    let some = positive (length (keep (goes_on a.paths.now a.keys.now a.d (key_here a.text.now a.table.now c.after_prefix-k.result)) a.live.now)) c.match_key-n.result many c.if-n-eq0.false in
+    let some = positive (length (keep (goes_on a.paths.now a.keys.now a.d (key_here a.text.now a.table.now c.after_prefix-k.result)) a.live.now)) c.match_key-n.result many (λ z. omega (arith, z)) in
     let b = c.match_key-n.ensures in
     let g = on_going a.paths.now a.keys.now a.d (key_here a.text.now a.table.now c.after_prefix-k.result) a.live.now c.requires.3 in
     let f = going_at a.keys.now (a.d + 1) (keep (goes_on a.paths.now a.keys.now a.d (key_here a.text.now a.table.now c.after_prefix-k.result)) a.live.now) g 0 some in
