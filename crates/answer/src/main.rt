@@ -114,8 +114,8 @@ fn turn(
     Ok(held.past(end))
 }
 
-// All lines are answered. The turns are counted, because nothing says that the input ends.
-fn serve(
+// Each line is answered. The turns are counted, because nothing says that the input ends.
+fn answer_lines(
     from: &mut impl Read,
     input: &mut [u8],
     text: &mut [u8],
@@ -131,7 +131,22 @@ fn serve(
         }
         held = turn(held, from, input, text, room, table, other, out)?;
     }
-    print::flush(out)
+    Ok(())
+}
+
+// All lines are answered. The answers to those before a read that failed are written too.
+fn serve(
+    from: &mut impl Read,
+    input: &mut [u8],
+    text: &mut [u8],
+    room: &mut [u8],
+    table: &mut [u32],
+    other: &mut [u32],
+    out: &mut impl Write,
+) -> io::Result<()> {
+    let answered = answer_lines(from, input, text, room, table, other, out);
+    let written = print::flush(out);
+    answered.and(written)
 }
 
 fn main(rt: HostRuntime) -> io::Result<()> {
