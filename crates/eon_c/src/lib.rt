@@ -189,7 +189,7 @@ pub extern "C" fn eon_record_at(text: &[u8], table: &[u32], offset: usize, answe
     *answer = count_words(eon_syntax::record_at(text, table, offset));
 }
 
-// A function with a list of structs is proved by a walk by hand: this one hands both memories on and decides nothing.
+// Hands both memories on and decides nothing.
 #[unsafe(no_mangle)]
 pub extern "C" fn eon_records_in(
     text: &[u8],

@@ -1,5 +1,5 @@
-// The records in a byte range, in a lent list of hits. `fill_hits` and `records_in`, which take the list, decide nothing: their proofs are
-// walks by hand over the functions that count and find.
+// The records in a byte range, in a lent list of hits. `fill_hits` and `records_in` take the list; what is a hit, how many there are and
+// whether they fit is decided by the functions that find, count and plan.
 ghost use Rattle.std.specs.Prelude.{◌≡◌, ◌≤◌, min, max, length};
 ghost use Rattle.eon_spec.specs.Calls.{outcome_of, after};
 ghost use Rattle.eon_spec.specs.Pick.{shares_byte, hit_of, records_in_call};

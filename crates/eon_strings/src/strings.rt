@@ -286,6 +286,7 @@ fn placed(quoted: &[u8], from: usize, to: usize, mode: Mode, scratch: &mut [u8])
 }
 
 // The value of a quoted text, without its quotes and escapes.
+#[tactic(auto, using(crate::proofs::Whole::long_refused))]
 pub fn unescape_and_unquote(quoted: &[u8], scratch: &mut [u8]) -> Unquoted
     ensures { after (unquoted_outcome result) scratch.new ≡ unquote_call quoted.now scratch.old }
 {

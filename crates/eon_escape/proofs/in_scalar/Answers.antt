@@ -11,7 +11,7 @@ pub returns-then-n-lt57344 : goal.returns-then-n-lt57344
 returns-then-n-lt57344 c = (λ s k. scalar_surrogate k c.args.n s c.if-n-lt55296.false c.if-n-lt57344.true, omega arith)
 
 pub returns-then-n-le1114111 : goal.returns-then-n-le1114111
-returns-then-n-le1114111 c = (λ s k. scalar_high k c.args.n s c.if-n-lt57344.false c.if-n-le1114111.true, (omega arith, tt))
+returns-then-n-le1114111 c = (λ s k. scalar_high k c.args.n s (omega arith) c.if-n-le1114111.true, (omega arith, tt))
 
 pub returns : goal.returns
 returns c = (λ s k. scalar_beyond k c.args.n s c.if-n-le1114111.false, omega arith)

@@ -5,11 +5,11 @@ use Rattle.eon_reformat.proofs.OneCall.{overlong}
 use Rattle.eon_reformat.proofs.+in_large.Goals as goal
 
 pub slice_bounds-in_large-end : goal.slice_bounds-in_large-end
-slice_bounds-in_large-end t c = sym (length-take-le 65536 c.args.text.now (omega (arith, c.if-text-gt-OVERLONG_TEXT.true)))
+slice_bounds-in_large-end t c = sym (length-take-le 65536 c.args.text.now (omega arith))
 
 pub in_large-requires : goal.in_large-requires
-in_large-requires t c = let e = length-take-le 65536 c.args.text.now (omega (arith, c.if-text-gt-OVERLONG_TEXT.true)) in
-    (omega (arith, e, c.if-text-gt-OVERLONG_TEXT.true, c.decreases), tt)
+in_large-requires t c = let e = length-take-le 65536 c.args.text.now (omega arith) in
+    (omega (arith, e, c.decreases), tt)
 
 pub returns-then-text-gt-OVERLONG_TEXT : goal.returns-then-text-gt-OVERLONG_TEXT
 returns-then-text-gt-OVERLONG_TEXT t c = let a = c.args in

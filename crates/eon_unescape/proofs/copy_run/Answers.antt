@@ -31,12 +31,11 @@ returns-then-b-eq13 c = let a = c.args in
     pass_run a.text.now a.from l.at a.to a.out.now l.out l.invariant (λ h. omega arith)
 
 pub loop-at-preserved : goal.loop-at-preserved
-loop-at-preserved c = let if1 = c.if-b-eq92 in
-    let if2 = c.if-b-eq13 in
+loop-at-preserved c = let if2 = c.if-b-eq13 in
     let put = c.put in
     let a = c.args in
     let l = c.loop-at in
-    pass_next a.text.now a.from l.at a.to a.out.now l.out put.new.out l.invariant (omega arith) if1.false if2.false put.ensures
+    pass_next a.text.now a.from l.at a.to a.out.now l.out put.new.out l.invariant (omega arith) (λ z. omega (arith, z)) if2.false put.ensures
 
 pub shape_of-out : goal.shape_of-out
 shape_of-out c = let args = c.args in

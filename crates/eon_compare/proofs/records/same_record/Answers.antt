@@ -1,3 +1,4 @@
+use native.Mathlib.Omega.{arith}
 use mathlib.Core.Path.{sym, ap₂, ◌∙◌}
 use Rattle.eon_spec.specs.Base.{eq_list}
 use Rattle.eon_table.specs.Words.{record_of}
@@ -35,7 +36,7 @@ returns c = let args = c.args in
     others_say args.text_a.now (record_of args.table_a.now args.i) args.text_b.now (record_of args.table_b.now args.j)
     (sym kind ∙ c.if-kind-word_within.false ∙ c.word_within.ensures.0)
     (sym c.word_within-2.ensures.0 ∙ c.if-word_within.false ∙ c.word_within-3.ensures.0)
-    (λ e. c.if-kind-eq-LIST.false (kind ∙ e))
+    (λ e. omega (arith, e, kind))
     (λ e. c.if-kind-eq-MAP.false (kind ∙ e))
     c.same_bytes.result
     (c.same_bytes.ensures ∙ ap₂ eq_list c.text_within.ensures c.text_within-2.ensures)

@@ -80,7 +80,7 @@ pub one_path-len-requires : goal.one_path-len-requires
 one_path-len-requires c = let a = c.args in
     let x = c.requires.1 in
     let u = tree_here (goal.at.one_path-len-requires c).In-loop-i x.0 x.1 x.2.0 x.2.1 in
-    (omega (arith, less c.loop-i.n c.loop-i.invariant.0 c.if-n-eq-PATHS_MAX.false), c.loop-i.invariant.1, (x.0, (value_of u.0, tree_value x.0 a.table.now (c.after_prefix-i.result + c.size.result) c.loop-i.j c.after_prefix-k.result u.0 u.1 c.after_prefix-k.ensures)))
+    (omega (arith, less c.loop-i.n c.loop-i.invariant.0 (λ z. omega (arith, z))), c.loop-i.invariant.1, (x.0, (value_of u.0, tree_value x.0 a.table.now (c.after_prefix-i.result + c.size.result) c.loop-i.j c.after_prefix-k.result u.0 u.1 c.after_prefix-k.ensures)))
 
 pub returns-then-len-eq0 : goal.returns-then-len-eq0
 returns-then-len-eq0 c = let a = c.args in
@@ -97,7 +97,7 @@ pub offset_bounds-keys-n : goal.offset_bounds-keys-n
 offset_bounds-keys-n c = omega (arith, c.loop-i.invariant.0)
 
 pub bounds-keys-n : goal.bounds-keys-n
-bounds-keys-n c = omega (arith, less c.loop-i.n c.loop-i.invariant.0 c.if-n-eq-PATHS_MAX.false)
+bounds-keys-n c = omega (arith, less c.loop-i.n c.loop-i.invariant.0 (λ z. omega (arith, z)))
 
 pub overflow_add-n-in-loop-i : goal.overflow_add-n-in-loop-i
 overflow_add-n-in-loop-i c = omega (arith, c.loop-i.invariant.0)
@@ -114,14 +114,14 @@ loop-i-smaller c = let a = c.args in
 pub loop-i-preserved : goal.loop-i-preserved
 loop-i-preserved c = let a = c.args in
     let o = c.one_path-len.ensures in
-    let l = less c.loop-i.n c.loop-i.invariant.0 c.if-n-eq-PATHS_MAX.false in (
+    let l = less c.loop-i.n c.loop-i.invariant.0 (λ z. omega (arith, z)) in (
       omega (arith, l),
       length-set c.one_path-len.new.keys c.loop-i.n c.one_path-len.result ∙ o.size,
-      going_put c.loop-i.keys c.one_path-len.new.keys c.loop-i.n c.one_path-len.result o.size l c.loop-i.invariant.2 o.kept o.few c.if-len-eq0.false,
+      going_put c.loop-i.keys c.one_path-len.new.keys c.loop-i.n c.one_path-len.result o.size l c.loop-i.invariant.2 o.kept o.few (λ z. omega (arith, z)),
       λ q vs cl h. subst (λ (ps : List Path). Listed path_of paths_of refl (λ t ts. refl) q a.table.now (c.after_prefix-i.result + c.size.result) vs cl c.next_tree-j.result ps)
           (sym (path_put c.loop-i.keys c.one_path-len.new.keys c.loop-i.n c.one_path-len.result o.size l c.loop-i.invariant.2 o.kept q))
           (listed_next path_of paths_of refl (λ t ts. refl) q a.table.now (c.after_prefix-i.result + c.size.result) vs cl c.loop-i.j (rests q c.loop-i.keys 0 (below c.loop-i.n)) (c.loop-i.invariant.3 q vs cl h) (sym c.more.ensures ∙ c.loop-i-test.true) c.next_tree-j.result c.next_tree-j.ensures (keys_from q c.one_path-len.new.keys (first_place c.loop-i.n) c.one_path-len.result)
-          (λ t b. path_of_lem t ∙ o.is q (value_of t) (tree_value q a.table.now (c.after_prefix-i.result + c.size.result) c.loop-i.j c.after_prefix-k.result t b c.after_prefix-k.ensures) ∙ made_some c.one_path-len.result (keys_from q c.one_path-len.new.keys (first_place c.loop-i.n) c.one_path-len.result) c.if-len-eq0.false)),
+          (λ t b. path_of_lem t ∙ o.is q (value_of t) (tree_value q a.table.now (c.after_prefix-i.result + c.size.result) c.loop-i.j c.after_prefix-k.result t b c.after_prefix-k.ensures) ∙ made_some c.one_path-len.result (keys_from q c.one_path-len.new.keys (first_place c.loop-i.n) c.one_path-len.result) (λ z. omega (arith, z)))),
     )
 
 pub returns : goal.returns

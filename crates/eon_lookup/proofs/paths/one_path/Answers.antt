@@ -85,7 +85,7 @@ pub offset_bounds-keys-at : goal.offset_bounds-keys-at
 offset_bounds-keys-at c = omega (arith, c.loop-i.invariant.0, c.requires.0)
 
 pub bounds-keys-at : goal.bounds-keys-at
-bounds-keys-at c = omega (arith, less c.loop-i.n c.loop-i.invariant.0 c.if-n-eq-KEYS_MAX.false, c.requires.0)
+bounds-keys-at c = omega (arith, less c.loop-i.n c.loop-i.invariant.0 (λ z. omega (arith, z)), c.requires.0)
 
 pub overflow_add-keys : goal.overflow_add-keys
 overflow_add-keys c = omega (arith, c.loop-i.invariant.0, c.requires.0)
@@ -94,7 +94,7 @@ pub offset_bounds-keys-at-in-loop-i : goal.offset_bounds-keys-at-in-loop-i
 offset_bounds-keys-at-in-loop-i c = omega (arith, c.loop-i.invariant.0, c.requires.0)
 
 pub bounds-keys-at-in-loop-i : goal.bounds-keys-at-in-loop-i
-bounds-keys-at-in-loop-i c = omega (arith, less c.loop-i.n c.loop-i.invariant.0 c.if-n-eq-KEYS_MAX.false, c.requires.0)
+bounds-keys-at-in-loop-i c = omega (arith, less c.loop-i.n c.loop-i.invariant.0 (λ z. omega (arith, z)), c.requires.0)
 
 pub overflow_add-n : goal.overflow_add-n
 overflow_add-n c = omega (arith, c.loop-i.invariant.0)
@@ -122,7 +122,7 @@ loop-i-preserved c = let a = c.args in
     let e = c.text_end.result in
     let at = a.base + 2 * c.loop-i.n in
     let key = sym c.is_key.ensures ∙ c.if-not-is_key.false in
-    let l = less c.loop-i.n c.loop-i.invariant.0 c.if-n-eq-KEYS_MAX.false in (
+    let l = less c.loop-i.n c.loop-i.invariant.0 (λ z. omega (arith, z)) in (
       omega (arith, l),
       length-set (set c.loop-i.keys at f) (at + 1) e ∙ length-set c.loop-i.keys at f ∙ c.loop-i.invariant.1,
       λ x h. get_or-set_other (set c.loop-i.keys at f) (at + 1) x e 0 (λ z. omega (arith, z, h)) ∙ get_or-set_other c.loop-i.keys at x f 0 (λ z. omega (arith, z, h)) ∙ c.loop-i.invariant.2 x h,

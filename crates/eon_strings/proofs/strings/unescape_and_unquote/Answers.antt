@@ -3,12 +3,8 @@ use mathlib.Core.Path.{◌≡◌, sym, ◌∙◌}
 use lib.ListN.{length}
 use Rattle.eon_spec.specs.Unquote.{unquote_chars}
 use Rattle.eon_unescape.specs.Views.{kept}
-use Rattle.eon_strings.proofs.Whole.{long_refused, bad_refused, good_is, fault_refused, text_placed, contents_at}
+use Rattle.eon_strings.proofs.Whole.{bad_refused, good_is, fault_refused, text_placed, contents_at}
 use Rattle.eon_strings.proofs.strings.unescape_and_unquote.Goals as goal
-
-pub returns-then-quoted-gt65535 : goal.returns-then-quoted-gt65535
-returns-then-quoted-gt65535 c = let args = c.args in
-    long_refused args.quoted.now args.scratch.now c.new.result c.new.ensures c.if-quoted-gt65535.true
 
 pub returns-then-good-quoted : goal.returns-then-good-quoted
 returns-then-good-quoted c = let args = c.args in

@@ -1,3 +1,4 @@
+use native.Mathlib.Omega.{arith}
 use mathlib.Core.Path.{sym, ap₂, ◌∙◌}
 use Prim.Native.Nat.{ℕ}
 use Rattle.eon_table.specs.Words.{record_of, part}
@@ -13,4 +14,4 @@ returns-then-kind-eq-MAP c = map_textless c.args.text.now (record_of c.args.tabl
 pub returns : goal.returns
 returns c = c.part.ensures
     ∙ ap₂ (λ (x y : ℕ). part c.args.text.now x y) c.word-from.ensures.0 c.word-to.ensures.0
-    ∙ text_some c.args.text.now (record_of c.args.table.now c.args.i) (λ e. c.if-kind-eq-LIST.false (c.word-kind.ensures.0 ∙ e)) (λ e. c.if-kind-eq-MAP.false (c.word-kind.ensures.0 ∙ e))
+    ∙ text_some c.args.text.now (record_of c.args.table.now c.args.i) (λ e. omega (arith, e, c.word-kind.ensures.0)) (λ e. c.if-kind-eq-MAP.false (c.word-kind.ensures.0 ∙ e))

@@ -44,7 +44,7 @@ unfolding class classes
 loop-i-preserved c = let args = c.args in
     let s = args.text.now in
     let l = c.loop-i in
-    (omega arith, l.invariant.1 ∙ dq_escape s l.i (omega arith) (ap class c.if-text-i-ne92.false) ∙ esc_on s (l.i + 1) (omega arith) (λ e. c.if-text-taken-eq10.false (only_feed (get_or s (l.i + 1) 0) e)))
+    (omega arith, l.invariant.1 ∙ dq_escape s l.i (omega arith) (ap class c.if-text-i-ne92.false) ∙ esc_on s (l.i + 1) (omega arith) (λ e. omega (arith, only_feed (get_or s (l.i + 1) 0) e)))
 
 pub returns : goal.returns
 unfolding accepts states
