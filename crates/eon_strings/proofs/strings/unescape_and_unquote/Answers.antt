@@ -9,7 +9,7 @@ use Rattle.eon_strings.proofs.strings.unescape_and_unquote.Goals as goal
 pub returns-then-good-quoted : goal.returns-then-good-quoted
 returns-then-good-quoted c = let args = c.args in
     let n = c.well_formed_len-good in
-    bad_refused args.quoted.now args.scratch.now c.new-then-good-quoted.result n.result c.new-then-good-quoted.ensures n.ensures c.if-quoted-gt65535.false c.if-good-quoted.true
+    bad_refused args.quoted.now args.scratch.now c.new-then-good-quoted.result n.result c.new-then-good-quoted.ensures n.ensures (omega arith) c.if-good-quoted.true
 
 pub in_quotes-c-requires : goal.in_quotes-c-requires
 in_quotes-c-requires c = let args = c.args in
