@@ -72,7 +72,7 @@ pub fn decode(word: &[u8], room: &mut [u8]) -> usize {
     n
 }
 
-#[derive(Drop)]
+#[derive(Clone, Copy)]
 pub enum Taken {
     Bytes(usize),
     Bad,

@@ -2,7 +2,7 @@
 use crate::hex::{self, Taken};
 use crate::{input, line};
 
-#[derive(Drop)]
+#[derive(Clone, Copy)]
 pub enum Number {
     Of(usize),
     Bad,
