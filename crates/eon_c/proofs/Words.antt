@@ -5,7 +5,7 @@ use mathlib.Core.List.{List}
 use Prim.Native.Nat.{ℕ, zero, suc}
 use lib.ListN.{length}
 use mir.Val.{bool_byte}
-use Rattle.eon_spec.specs.declared.Refusal.{Refusal}
+use Rattle.eon_spec.specs.Refused.{Refusal}
 use Rattle.eon_spec.specs.declared.Answer.{Answer}
 use Rattle.eon_spec.specs.declared.Answer.TheVariants as answer
 use Rattle.eon_spec.specs.declared.Compared.{Compared}
@@ -19,7 +19,7 @@ use Rattle.eon_spec.specs.declared.FormatOptions.{FormatOptions}
 use Rattle.eon_spec.specs.Layout.{setting_of}
 use Rattle.eon_spec.specs.declared.Found.{Found}
 use Rattle.eon_spec.specs.Lookup.{Looked, SomeOfEach, IsLookup}
-use Rattle.eon_spec.specs.Calls.{Outcome, done, refused_with, AfterIn, after, AfterBoth, after_both, outcome_of, compared_outcome, unquoted_outcome, part_of, show_call}
+use Rattle.eon_spec.specs.Calls.{Outcome, done, refused_with, AfterIn, after, AfterBoth, after_both, outcome_of, part_of, show_call}
 use Rattle.eon_c.specs.Words.{refused_words, done_words, count_words, truth_words, part_words, slice_number, which_of, shown_words, options_of, LentAnswers, unless_refused, found_or}
 
 module _ (w : List ℕ) where
@@ -29,19 +29,19 @@ module _ (w : List ℕ) where
   pub count_refused : (a : Answer) (r : Refusal) → a ≡ answer.Refused r → w ≡ refused_words r → w ≡ count_words (outcome_of a)
   count_refused a r e f = f ∙ rw e refl
 
-  pub told : (c : Compared) (b : Bool) → c ≡ compared.Equal b → w ≡ done_words (bool_byte b) 0 0 → w ≡ truth_words (compared_outcome c)
+  pub told : (c : Compared) (b : Bool) → c ≡ compared.Equal b → w ≡ done_words (bool_byte b) 0 0 → w ≡ truth_words (outcome_of c)
   told c b e f = f ∙ ap (λ (n : ℕ). done_words n 0 0) (as_number b) ∙ rw e refl where
     as_number : (t : Bool) → bool_byte t ≡ cond t 1 0
     as_number true = refl
     as_number false = refl
 
-  pub truth_refused : (c : Compared) (r : Refusal) → c ≡ compared.Refused r → w ≡ refused_words r → w ≡ truth_words (compared_outcome c)
+  pub truth_refused : (c : Compared) (r : Refusal) → c ≡ compared.Refused r → w ≡ refused_words r → w ≡ truth_words (outcome_of c)
   truth_refused c r e f = f ∙ rw e refl
 
-  pub parted : (u : Unquoted) (s : Which) (start len n : ℕ) → u ≡ unquoted.Part s start len → n ≡ slice_number s → w ≡ done_words len n start → w ≡ part_words (unquoted_outcome u)
+  pub parted : (u : Unquoted) (s : Which) (start len n : ℕ) → u ≡ unquoted.Part s start len → n ≡ slice_number s → w ≡ done_words len n start → w ≡ part_words (outcome_of u)
   parted u s start len n e g f = f ∙ ap (λ (m : ℕ). done_words len m start) g ∙ rw e refl
 
-  pub part_refused : (u : Unquoted) (r : Refusal) → u ≡ unquoted.Refused r → w ≡ refused_words r → w ≡ part_words (unquoted_outcome u)
+  pub part_refused : (u : Unquoted) (r : Refusal) → u ≡ unquoted.Refused r → w ≡ refused_words r → w ≡ part_words (outcome_of u)
   part_refused u r e f = f ∙ rw e refl
 
   pub shown_none : (n : ℕ) (s : Which) (start : ℕ) → n ≡ 0 → w ≡ done_words 0 0 0 → w ≡ shown_words n s start

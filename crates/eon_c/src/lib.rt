@@ -3,7 +3,7 @@
 
 ghost use Rattle.std.specs.Prelude.{◌≡◌, length};
 ghost use Rattle.eon_spec.specs.Unquote.{is_valid_identifier};
-ghost use Rattle.eon_spec.specs.Calls.{after, outcome_of, read_call, format_call, reformat_call, compared_outcome, compare_call, unquoted_outcome, unquote_call, part_of, show_call};
+ghost use Rattle.eon_spec.specs.Calls.{after, outcome_of, read_call, format_call, reformat_call, compare_call, unquote_call, part_of, show_call};
 ghost use Rattle.eon_spec.specs.Pick.{record_at_call, records_in_call};
 ghost use Rattle.eon_spec.specs.Lookup.{lookup_call, steps_of};
 ghost use Rattle.eon_c.specs.Words.{refused_words, done_words, count_words, truth_words, slice_number, which_of, part_words, shown_words, options_of, LentAnswers, found_or};
@@ -49,7 +49,7 @@ fn put_count(a: Answer, answer: &mut [u64; 8])
 }
 
 fn truth_words(c: Compared) -> [u64; 8]
-    ensures { result ≡ truth_words (compared_outcome c) }
+    ensures { result ≡ truth_words (outcome_of c) }
 {
     match c {
         Compared::Equal(b) => done_words(b as u64, 0, 0),
@@ -89,7 +89,7 @@ fn which_of(slice: u64) -> Which
 }
 
 fn part_words(u: Unquoted) -> [u64; 8]
-    ensures { result ≡ part_words (unquoted_outcome u) }
+    ensures { result ≡ part_words (outcome_of u) }
 {
     match u {
         Unquoted::Part(which, start, len) => {

@@ -11,7 +11,7 @@ use borrow.Author.Tests.{eq-eqb, ne_eqb}
 use Rattle.eon_laws.proofs.Facts.{le_of}
 use Rattle.eon_spec.specs.Base.{eq_list}
 use Rattle.eon_spec.specs.Tree.{TokenTree}
-use Rattle.eon_spec.specs.declared.Refusal.{Refusal}
+use Rattle.eon_spec.specs.Refused.{Refusal}
 use Rattle.eon_spec.specs.RecordKind.{LIST, MAP}
 use Rattle.eon_spec.specs.Records.{Record, tree_records}
 use Rattle.eon_spec.specs.Calls.{Outcome, done, refused_with, then, read_finished, record_text, same_records, compare_call}

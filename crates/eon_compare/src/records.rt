@@ -1,6 +1,6 @@
 // Comparison of two trees, each by its text and its finished table, spans aside.
 ghost use Rattle.std.specs.Prelude.{◌≡◌, ◌+◌, ◌*◌, ◌≤◌, ◌<◌, length};
-ghost use Rattle.eon_spec.specs.Calls.{compared_outcome, compare_call, same_records};
+ghost use Rattle.eon_spec.specs.Calls.{outcome_of, compare_call, same_records};
 ghost use Rattle.eon_table.specs.Words.{record_of, records_of, text_at};
 ghost use Rattle.eon_compare.specs.Ranges.{same_record, inside_of};
 
@@ -98,7 +98,7 @@ fn same_range(
 
 // Are the trees of two texts equal? Refused as the first table is, and then as the second.
 pub fn compare(text_a: &[u8], table_a: &[u32], text_b: &[u8], table_b: &[u32]) -> Compared
-    ensures { compared_outcome result ≡ compare_call text_a.now table_a.now text_b.now table_b.now }
+    ensures { outcome_of result ≡ compare_call text_a.now table_a.now text_b.now table_b.now }
 {
     match finished(text_a, table_a) {
         Answer::Refused(r) => Compared::Refused(r),

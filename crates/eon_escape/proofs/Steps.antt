@@ -1,7 +1,7 @@
+use Rattle.std.specs.Prelude.{None, Some}
 -- One character at a time, in each mode.
 use mathlib.Core.Path.{◌≡◌, refl, sym, ap, ◌∙◌, subst}
 use mathlib.Core.Bool.{Bool, true, false, ◌&&◌}
-use mathlib.Core.Option.{none, some}
 use mathlib.Core.List.{List, [], ◌∷◌, map}
 use Prim.Native.Nat.{ℕ, zero, suc, ◌+◌, ◌-◌, ◌*◌, ◌^◌, ◌≤◌, ◌<◌}
 use native.Mathlib.Omega.{arith}
@@ -30,19 +30,19 @@ module _ (c : ℕ) (s : List ℕ) where
   unfolding unescape
   plain_on e = rw (ne_eqb c 92 e, unescape)
 
-  pub back_escape : (d : ℕ) → lookup c escapes ≡ some d → unescape backslash (c ∷ s) ≡ push d (unescape plain s)
+  pub back_escape : (d : ℕ) → lookup c escapes ≡ Some d → unescape backslash (c ∷ s) ≡ push d (unescape plain s)
   unfolding unescape
   back_escape d e = rw (e, unescape)
 
-  pub back_feed : lookup c escapes ≡ none → c ≡ 10 → unescape backslash (c ∷ s) ≡ unescape blanks s
+  pub back_feed : lookup c escapes ≡ None → c ≡ 10 → unescape backslash (c ∷ s) ≡ unescape blanks s
   unfolding unescape
   back_feed e f = rw (e, unescape) (rw (eq-eqb c 10 f))
 
-  pub back_unicode : lookup c escapes ≡ none → (c ≡ 10 → ⊥) → c ≡ 117 → unescape backslash (c ∷ s) ≡ unescape unicode s
+  pub back_unicode : lookup c escapes ≡ None → (c ≡ 10 → ⊥) → c ≡ 117 → unescape backslash (c ∷ s) ≡ unescape unicode s
   unfolding unescape
   back_unicode e f g = rw (e, unescape) (rw (ne_eqb c 10 f) (rw (eq-eqb c 117 g)))
 
-  pub back_other : lookup c escapes ≡ none → (c ≡ 10 → ⊥) → (c ≡ 117 → ⊥) → unescape backslash (c ∷ s) ≡ fault 21
+  pub back_other : lookup c escapes ≡ None → (c ≡ 10 → ⊥) → (c ≡ 117 → ⊥) → unescape backslash (c ∷ s) ≡ fault 21
   unfolding unescape
   back_other e f g = rw (e, unescape) (rw (ne_eqb c 10 f) (rw (ne_eqb c 117 g)))
 
@@ -63,19 +63,19 @@ module _ (c : ℕ) (s : List ℕ) where
   unicode_other e = rw (ne_eqb c 123 e, unescape)
 
 module _ (k n c : ℕ) (s : List ℕ) where
-  pub digit_more : (d : ℕ) → (c ≡ 125 → ⊥) → hex_digit c ≡ some d → k < 8 → unescape (digits k n) (c ∷ s) ≡ unescape (digits (k + 1) (n * 16 + d)) s
+  pub digit_more : (d : ℕ) → (c ≡ 125 → ⊥) → hex_digit c ≡ Some d → k < 8 → unescape (digits k n) (c ∷ s) ≡ unescape (digits (k + 1) (n * 16 + d)) s
   unfolding unescape
   digit_more d e f g = rw (ne_eqb c 125 e, unescape) (rw f (rw (lt-ltb k 8 g, add-one k)))
 
-  pub digit_ninth : (d : ℕ) → (c ≡ 125 → ⊥) → hex_digit c ≡ some d → 8 ≤ k → unescape (digits k n) (c ∷ s) ≡ fault 23
+  pub digit_ninth : (d : ℕ) → (c ≡ 125 → ⊥) → hex_digit c ≡ Some d → 8 ≤ k → unescape (digits k n) (c ∷ s) ≡ fault 23
   unfolding unescape
   digit_ninth d e f g = rw (ne_eqb c 125 e, unescape) (rw f (rw (le-ltb k 8 g)))
 
-  pub digit_bar : (c ≡ 125 → ⊥) → hex_digit c ≡ none → c ≡ 95 → unescape (digits k n) (c ∷ s) ≡ unescape (digits k n) s
+  pub digit_bar : (c ≡ 125 → ⊥) → hex_digit c ≡ None → c ≡ 95 → unescape (digits k n) (c ∷ s) ≡ unescape (digits k n) s
   unfolding unescape
   digit_bar e f g = rw (ne_eqb c 125 e, unescape) (rw f (rw (eq-eqb c 95 g)))
 
-  pub digit_other : (c ≡ 125 → ⊥) → hex_digit c ≡ none → (c ≡ 95 → ⊥) → unescape (digits k n) (c ∷ s) ≡ fault 24
+  pub digit_other : (c ≡ 125 → ⊥) → hex_digit c ≡ None → (c ≡ 95 → ⊥) → unescape (digits k n) (c ∷ s) ≡ fault 24
   unfolding unescape
   digit_other e f g = rw (ne_eqb c 125 e, unescape) (rw f (rw (ne_eqb c 95 g)))
 
@@ -98,25 +98,25 @@ module _ (k n : ℕ) (s : List ℕ) where
 
 -- hexadecimal digits
 module _ (c : ℕ) where
-  pub hex_low : c < 48 → hex_digit c ≡ none
+  pub hex_low : c < 48 → hex_digit c ≡ None
   hex_low h = rw (in_low 48 57 c h, hex_digit) (rw (in_low 97 102 c (omega arith)) (rw (in_low 65 70 c (omega arith))))
 
-  pub hex_digit_lem : 48 ≤ c → c ≤ 57 → hex_digit c ≡ some (c - 48)
+  pub hex_digit_lem : 48 ≤ c → c ≤ 57 → hex_digit c ≡ Some (c - 48)
   hex_digit_lem h l = rw (in_yes 48 57 c h l, hex_digit)
 
-  pub hex_between : 57 < c → c < 65 → hex_digit c ≡ none
+  pub hex_between : 57 < c → c < 65 → hex_digit c ≡ None
   hex_between h l = rw (in_high 48 57 c h, hex_digit) (rw (in_low 97 102 c (omega arith)) (rw (in_low 65 70 c l)))
 
-  pub hex_upper : 65 ≤ c → c ≤ 70 → hex_digit c ≡ some (c - 55)
+  pub hex_upper : 65 ≤ c → c ≤ 70 → hex_digit c ≡ Some (c - 55)
   hex_upper h l = rw (in_high 48 57 c (omega arith), hex_digit) (rw (in_low 97 102 c (omega arith)) (rw (in_yes 65 70 c h l)))
 
-  pub hex_gap : 70 < c → c < 97 → hex_digit c ≡ none
+  pub hex_gap : 70 < c → c < 97 → hex_digit c ≡ None
   hex_gap h l = rw (in_high 48 57 c (omega arith), hex_digit) (rw (in_low 97 102 c l) (rw (in_high 65 70 c h)))
 
-  pub hex_lower : 97 ≤ c → c ≤ 102 → hex_digit c ≡ some (c - 87)
+  pub hex_lower : 97 ≤ c → c ≤ 102 → hex_digit c ≡ Some (c - 87)
   hex_lower h l = rw (in_high 48 57 c (omega arith), hex_digit) (rw (in_yes 97 102 c h l))
 
-  pub hex_high : 102 < c → hex_digit c ≡ none
+  pub hex_high : 102 < c → hex_digit c ≡ None
   hex_high h = rw (in_high 48 57 c (omega arith), hex_digit) (rw (in_high 97 102 c h) (rw (in_high 65 70 c (omega arith))))
 
 -- the table of escapes, from a place on
@@ -138,12 +138,12 @@ module _ (es : List (ℕ × ℕ)) (c i : ℕ) where
       rw (add-one i, drop-cons es i (0, 0) h)
       (rw (ne_eqb c (get_or es i (0, 0)).0 (λ e. n (key ∙ sym e)), lookup))
 
-  pub look_here : i < length es → get_or (keys es) i 0 ≡ c → lookup c (drop i es) ≡ some (get_or (values es) i 0)
+  pub look_here : i < length es → get_or (keys es) i 0 ≡ c → lookup c (drop i es) ≡ Some (get_or (values es) i 0)
   look_here h e =
       rw (drop-cons es i (0, 0) h)
-      (rw (eq-eqb c (get_or es i (0, 0)).0 (sym e ∙ key), lookup) (ap some (sym val)))
+      (rw (eq-eqb c (get_or es i (0, 0)).0 (sym e ∙ key), lookup) (ap Some (sym val)))
 
-  pub look_end : length es ≤ i → lookup c (drop i es) ≡ none
+  pub look_end : length es ≤ i → lookup c (drop i es) ≡ None
   look_end h = rw (drop_of_length-le es h)
 
 -- all elements pass a test

@@ -1,6 +1,5 @@
 -- What the functions' answers say.
-use Rattle.std.specs.Prelude.{ℕ, ◌*◌, ◌^◌, ◌≤◌, ◌<◌, List}
-use Rattle.std.proofs.Math.Option.{Option, none, some}
+use Rattle.std.specs.Prelude.{ℕ, ◌*◌, ◌^◌, ◌≤◌, ◌<◌, List, Option, None, Some}
 use Rattle.eon_spec.specs.Unquote.{value, fault, push, unescape, plain, backslash, blanks, unicode, digits}
 use Rattle.eon_spec.specs.Unquote as unquoting
 use Rattle.eon_escape.specs.declared.Found.{Found}
@@ -11,8 +10,8 @@ use Rattle.eon_escape.specs.declared.Step.{Step}
 use Rattle.eon_escape.specs.declared.Step.TheVariants.{Go, Put, Stop}
 
 abbrev pub as_option : Found → Option ℕ
-as_option (Code d) = some d
-as_option Nothing = none
+as_option (Code d) = Some d
+as_option Nothing = None
 
 abbrev pub FoundIs : ℕ → Found → Type 0
 FoundIs b (Code d) = d < b

@@ -1,8 +1,7 @@
 // The layout of a finished table (format.rs).
 #![tactic(auto)]
 
-ghost use Rattle.std.specs.Prelude.{◌≡◌, List, [], ◌∷◌, ◌++◌, ℕ, ◌+◌, ◌-◌, ◌<◌, ◌≤◌, length, true, false};
-ghost use Rattle.std.proofs.Math.Option.{Option};
+ghost use Rattle.std.specs.Prelude.{◌≡◌, List, [], ◌∷◌, ◌++◌, ℕ, ◌+◌, ◌-◌, ◌<◌, ◌≤◌, length, true, false, Option};
 ghost use Rattle.eon_spec.specs.Tree.{Slice, TokenTree, TokenValue, TokenTrees, KeyValues, list_of, map_of, variant_of};
 ghost use Rattle.eon_spec.specs.Layout.{Settings, add_indent, suffix_comment, value, indented_value, shared, is_container, map_content, closing, no_key_values, format, text_of, settings_of};
 ghost use Rattle.eon_one_line.specs.Flat.{flat_at};

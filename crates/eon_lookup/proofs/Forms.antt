@@ -1,8 +1,8 @@
+use Rattle.std.specs.Prelude.{Option, None, Some}
 -- The form of a path list: items read off one after the other.
 use mathlib.Core.Path.{◌≡◌, refl, sym, ap, ap₂, ◌∙◌}
 use mathlib.Core.Bool.{Bool, true, false, ◌&&◌, ◌||◌, cond}
 use mathlib.Core.List.{List, [], ◌∷◌, ◌++◌, append_assoc}
-use mathlib.Core.Option.{Option, none, some}
 use Prim.Native.Nat.{ℕ, zero, suc, ◌+◌, ◌-◌, ◌*◌, ◌≤◌, ◌<◌}
 use native.Mathlib.Omega.{arith}
 use native.Mathlib.Nat.{add-zero}
@@ -31,10 +31,10 @@ append-nil (x ∷ l) = ap (λ m. x ∷ m) (append-nil l)
 -- ---- items of a list, one after the other
 
 abbrev pub prepend : {A : Type 0} → List A → Option (List A) → Option (List A)
-prepend front none = none
-prepend front (some l) = some (front ++ l)
+prepend front None = None
+prepend front (Some l) = Some (front ++ l)
 
-module _ {A : Type 0} (f : TokenTree → Option A) (fs : TokenTrees → Option (List A)) (empty : fs no_trees ≡ some []) (first : (t : TokenTree) (ts : TokenTrees) → fs (t ∷ᵗ ts) ≡ both (λ x l. x ∷ l) (f t) (fs ts)) (s tb : List ℕ) (end : ℕ) (vs : TokenTrees) (cl : List Slice) where
+module _ {A : Type 0} (f : TokenTree → Option A) (fs : TokenTrees → Option (List A)) (empty : fs no_trees ≡ Some []) (first : (t : TokenTree) (ts : TokenTrees) → fs (t ∷ᵗ ts) ≡ both (λ x l. x ∷ l) (f t) (fs ts)) (s tb : List ℕ) (end : ℕ) (vs : TokenTrees) (cl : List Slice) where
   -- `front` was read before record j
   pub record Listed (j : ℕ) (front : List A) : Type 0 where
     pub left : TokenTrees
@@ -45,12 +45,12 @@ module _ {A : Type 0} (f : TokenTree → Option A) (fs : TokenTrees → Option (
   listed_start j h = record { left = vs; inside = h; so = same (fs vs) }
     where
       same : (o : Option (List A)) → o ≡ prepend [] o
-      same none = refl
-      same (some l) = refl
+      same None = refl
+      same (Some l) = refl
 
   module _ (j : ℕ) (front : List A) (t : Listed j front) where
-    pub listed_all : more_at tb end j ≡ false → fs vs ≡ some front
-    listed_all m = t.so ∙ ap (prepend front) (ap fs (no_item t.inside m) ∙ empty) ∙ ap some (append-nil front)
+    pub listed_all : more_at tb end j ≡ false → fs vs ≡ Some front
+    listed_all m = t.so ∙ ap (prepend front) (ap fs (no_item t.inside m) ∙ empty) ∙ ap Some (append-nil front)
 
     module _ (m : more_at tb end j ≡ true) where
       abbrev e : Item s tb end j t.left cl
@@ -62,7 +62,7 @@ module _ {A : Type 0} (f : TokenTree → Option A) (fs : TokenTrees → Option (
       so_far : fs vs ≡ prepend front (both (λ x l. x ∷ l) (f e.first) (fs e.rest))
       so_far = t.so ∙ ap (prepend front) (ap fs e.is ∙ first e.first e.rest)
 
-      pub listed_next : (r : ℕ) → NextAt tb end j r → (a : A) → ((u : TokenTree) → TreeAt s tb end j u → f u ≡ some a) → Listed r (front ++ (a ∷ []))
+      pub listed_next : (r : ℕ) → NextAt tb end j r → (a : A) → ((u : TokenTree) → TreeAt s tb end j u → f u ≡ Some a) → Listed r (front ++ (a ∷ []))
       listed_next r n a h =
           record {
             left = e.rest;
@@ -70,22 +70,22 @@ module _ {A : Type 0} (f : TokenTree → Option A) (fs : TokenTrees → Option (
             so = so_far ∙ ap (λ (o : Option A). prepend front (both (λ x l. x ∷ l) o (fs e.rest))) (h e.first e.here.at) ∙ move (fs e.rest);
           }
         where
-          move : (o : Option (List A)) → prepend front (both (λ x l. x ∷ l) (some a) o) ≡ prepend (front ++ (a ∷ [])) o
-          move none = refl
-          move (some l) = ap some (sym (append_assoc front (a ∷ []) l))
+          move : (o : Option (List A)) → prepend front (both (λ x l. x ∷ l) (Some a) o) ≡ prepend (front ++ (a ∷ [])) o
+          move None = refl
+          move (Some l) = ap Some (sym (append_assoc front (a ∷ []) l))
 
-      pub listed_bad : ((u : TokenTree) → TreeAt s tb end j u → f u ≡ none) → fs vs ≡ none
+      pub listed_bad : ((u : TokenTree) → TreeAt s tb end j u → f u ≡ None) → fs vs ≡ None
       listed_bad h = so_far ∙ ap (λ (o : Option A). prepend front (both (λ x l. x ∷ l) o (fs e.rest))) (h e.first e.here.at)
 
-      pub listed_long : (test : List A → Bool) → ((l : List A) → length front < length l → test l ≡ false) → keep_if test (fs vs) ≡ none
+      pub listed_long : (test : List A → Bool) → ((l : List A) → length front < length l → test l ≡ false) → keep_if test (fs vs) ≡ None
       listed_long test h = ap (keep_if test) so_far ∙ go (f e.first) (fs e.rest)
         where
-          go : (x : Option A) (y : Option (List A)) → keep_if test (prepend front (both (λ x l. x ∷ l) x y)) ≡ none
-          go none y = refl
-          go (some a) none = refl
-          go (some a) (some l) =
+          go : (x : Option A) (y : Option (List A)) → keep_if test (prepend front (both (λ x l. x ∷ l) x y)) ≡ None
+          go None y = refl
+          go (Some a) None = refl
+          go (Some a) (Some l) =
               let z : length (front ++ (a ∷ l)) ≡ length front + length (a ∷ l) = length-append front (a ∷ l) in
-              ap (λ (b : Bool). cond b (some (front ++ (a ∷ l))) none) (h (front ++ (a ∷ l)) (omega arith))
+              ap (λ (b : Bool). cond b (Some (front ++ (a ∷ l))) None) (h (front ++ (a ∷ l)) (omega arith))
 
 -- ---- stored keys
 
@@ -136,7 +136,7 @@ module _ (q : List ℕ) where
       end : get_or stored (at + 1) 0 ≡ t
       end = get_or-set_same (set keys at f) (at + 1) t 0 (omega (arith, length-set keys at f))
 
-pub path_other : (v : TokenValue) → (kind_of v ≡ 4 → ⊥) → path_in v ≡ none
+pub path_other : (v : TokenValue) → (kind_of v ≡ 4 → ⊥) → path_in v ≡ None
 path_other (identifier b) h = refl
 path_other (number b) h = refl
 path_other (quoted_string b) h = refl
@@ -144,14 +144,14 @@ path_other (list_of vs cl) h = absurd (h refl)
 path_other (map_of kvs cl) h = refl
 path_other (variant_of n vs cl) h = refl
 
-pub path_done : (vs : TokenTrees) (cl : List Slice) (n : ℕ) (ks : Path) → keys_of vs ≡ some ks → length ks ≡ n → n ≤ 8 → path_in (list_of vs cl) ≡ made n ks
-path_done vs cl n ks e l h = ap (keep_if (λ ks. within 1 8 (length ks))) e ∙ ap (λ (m : ℕ). cond (within 1 8 m) (some ks) none) l ∙ go n h
+pub path_done : (vs : TokenTrees) (cl : List Slice) (n : ℕ) (ks : Path) → keys_of vs ≡ Some ks → length ks ≡ n → n ≤ 8 → path_in (list_of vs cl) ≡ made n ks
+path_done vs cl n ks e l h = ap (keep_if (λ ks. within 1 8 (length ks))) e ∙ ap (λ (m : ℕ). cond (within 1 8 m) (Some ks) None) l ∙ go n h
   where
-    go : (n : ℕ) → n ≤ 8 → cond (within 1 8 n) (some ks) none ≡ made n ks
+    go : (n : ℕ) → n ≤ 8 → cond (within 1 8 n) (Some ks) None ≡ made n ks
     go zero h = refl
-    go (suc m) h = ap₂ (λ (a b : Bool). cond (a && b) (some ks) none) (le-leb 1 (suc m) (omega arith)) (le-leb (suc m) 8 h)
+    go (suc m) h = ap₂ (λ (a b : Bool). cond (a && b) (Some ks) None) (le-leb 1 (suc m) (omega arith)) (le-leb (suc m) 8 h)
 
-pub path_bad : (vs : TokenTrees) (cl : List Slice) → keys_of vs ≡ none → path_in (list_of vs cl) ≡ none
+pub path_bad : (vs : TokenTrees) (cl : List Slice) → keys_of vs ≡ None → path_in (list_of vs cl) ≡ None
 path_bad vs cl e = ap (keep_if (λ ks. within 1 8 (length ks))) e
 
 pub nine_keys : (l : Path) → 8 < length l → within 1 8 (length l) ≡ false
@@ -161,11 +161,11 @@ nine_keys l h = ap (λ (b : Bool). leb 1 (length l) && b) (lt-leb (length l) 8 h
     off true = refl
     off false = refl
 
-pub made_some : (n : ℕ) (ks : Path) → (n ≡ 0 → ⊥) → made n ks ≡ some ks
+pub made_some : (n : ℕ) (ks : Path) → (n ≡ 0 → ⊥) → made n ks ≡ Some ks
 made_some zero ks h = absurd (h refl)
 made_some (suc n) ks h = refl
 
-pub made_none : (n : ℕ) (ks : Path) → n ≡ 0 → made n ks ≡ none
+pub made_none : (n : ℕ) (ks : Path) → n ≡ 0 → made n ks ≡ None
 made_none zero ks h = refl
 made_none (suc n) ks h = absurd (omega arith)
 
@@ -178,7 +178,7 @@ pub list_of_lem : (t : TokenTree) → path_list t ≡ path_list_in (value_of t)
 unfolding path_list
 list_of_lem (tree sp p v x) = refl
 
-pub list_other : (v : TokenValue) → (kind_of v ≡ 4 → ⊥) → path_list_in v ≡ none
+pub list_other : (v : TokenValue) → (kind_of v ≡ 4 → ⊥) → path_list_in v ≡ None
 list_other (identifier b) h = refl
 list_other (number b) h = refl
 list_other (quoted_string b) h = refl
@@ -186,10 +186,10 @@ list_other (list_of vs cl) h = absurd (h refl)
 list_other (map_of kvs cl) h = refl
 list_other (variant_of n vs cl) h = refl
 
-pub list_done : (vs : TokenTrees) (cl : List Slice) (n : ℕ) (ps : List Path) → paths_of vs ≡ some ps → length ps ≡ n → n ≤ 128 → path_list_in (list_of vs cl) ≡ cond (leb n 128) (some ps) none
-list_done vs cl n ps e l h = ap (keep_if (λ ps. leb (length ps) 128)) e ∙ ap (λ (m : ℕ). cond (leb m 128) (some ps) none) l
+pub list_done : (vs : TokenTrees) (cl : List Slice) (n : ℕ) (ps : List Path) → paths_of vs ≡ Some ps → length ps ≡ n → n ≤ 128 → path_list_in (list_of vs cl) ≡ cond (leb n 128) (Some ps) None
+list_done vs cl n ps e l h = ap (keep_if (λ ps. leb (length ps) 128)) e ∙ ap (λ (m : ℕ). cond (leb m 128) (Some ps) None) l
 
-pub list_bad : (vs : TokenTrees) (cl : List Slice) → paths_of vs ≡ none → path_list_in (list_of vs cl) ≡ none
+pub list_bad : (vs : TokenTrees) (cl : List Slice) → paths_of vs ≡ None → path_list_in (list_of vs cl) ≡ None
 list_bad vs cl e = ap (keep_if (λ ps. leb (length ps) 128)) e
 
 rests_append : (q keys : List ℕ) (d : ℕ) (a b : List ℕ) → rests q keys d (a ++ b) ≡ rests q keys d a ++ rests q keys d b
@@ -247,9 +247,9 @@ module _ (keys stored : List ℕ) (n len : ℕ) (room : length stored ≡ key_wo
       h : p < n + 1
       h = in_below (n + 1) p e
 
-      some : (m : ℕ) → (m ≡ 0 → ⊥) → 0 < m
-      some zero f = absurd (f refl)
-      some (suc m) f = omega arith
+      Some : (m : ℕ) → (m ≡ 0 → ⊥) → 0 < m
+      Some zero f = absurd (f refl)
+      Some (suc m) f = omega arith
 
       go : Dec (p < n) → GoesOn keys' 0 p
       go (yes d) =
@@ -259,5 +259,5 @@ module _ (keys stored : List ℕ) (n len : ℕ) (room : length stored ≡ key_wo
       go (no d) =
           let x : p ≡ n = omega (arith, h) in
           let y : get_or keys' p 0 ≡ len = ap (λ (m : ℕ). get_or keys' m 0) x ∙ this in
-          let w : 0 < len = some len z in
+          let w : 0 < len = Some len z in
           record { small = omega arith; more = omega arith; few = omega arith }

@@ -1,8 +1,8 @@
+use Rattle.std.specs.Prelude.{Option, None, Some}
 -- The walk through a map's pairs: what each pair gives the paths, and the steps it takes.
 use mathlib.Core.Path.{◌≡◌, refl, sym, ap, ap₂, ◌∙◌}
 use mathlib.Core.Bool.{Bool, true, false, ◌&&◌, ◌||◌, not, cond}
 use mathlib.Core.List.{List, [], ◌∷◌, ◌++◌}
-use mathlib.Core.Option.{Option, none, some}
 use Prim.Native.Nat.{ℕ, suc, ◌+◌, ◌-◌, ◌≤◌, ◌<◌}
 use native.Mathlib.Omega.{arith}
 use lib.ListN.{length, get_or}
@@ -26,12 +26,12 @@ use Rattle.eon_lookup.proofs.Lists.{or_yes, elem_keep, gains_nothing}
 
 module _ (s tb : List ℕ) where
   abbrev here_as : ℕ → ℕ → Option Key
-  here_as i n = cond (key_kind n) (some (record_text s (record_of tb i))) none
+  here_as i n = cond (key_kind n) (Some (record_text s (record_of tb i))) None
 
   value_key : (i : ℕ) (v : TokenValue) → ValueAt s tb i v → key_in v ≡ key_here s tb i
-  value_key i (identifier b) h = sym (ap (here_as i) (value_kind s tb i (identifier b) h) ∙ ap some (leaf_text s tb i 1 b (unfold ValueAt in h) (λ z. omega arith) (λ z. omega arith)))
+  value_key i (identifier b) h = sym (ap (here_as i) (value_kind s tb i (identifier b) h) ∙ ap Some (leaf_text s tb i 1 b (unfold ValueAt in h) (λ z. omega arith) (λ z. omega arith)))
   value_key i (number b) h = sym (ap (here_as i) (value_kind s tb i (number b) h))
-  value_key i (quoted_string b) h = sym (ap (here_as i) (value_kind s tb i (quoted_string b) h) ∙ ap some (leaf_text s tb i 3 b (unfold ValueAt in h) (λ z. omega arith) (λ z. omega arith)))
+  value_key i (quoted_string b) h = sym (ap (here_as i) (value_kind s tb i (quoted_string b) h) ∙ ap Some (leaf_text s tb i 3 b (unfold ValueAt in h) (λ z. omega arith) (λ z. omega arith)))
   value_key i (list_of vs cl) h = sym (ap (here_as i) (value_kind s tb i (list_of vs cl) h))
   value_key i (map_of kvs cl) h = sym (ap (here_as i) (value_kind s tb i (map_of kvs cl) h))
   value_key i (variant_of n vs cl) h = sym (ap (here_as i) (value_kind s tb i (variant_of n vs cl) h))
@@ -95,14 +95,14 @@ steps_map ps kvs cl e = ap (λ (b : Bool). elim b [ true ↦ steps_in ps kvs | f
 
 -- behind a value that is a map
 abbrev pub inside_first : ℕ → TokenValue → Path → Option ℕ
-inside_first w (identifier b) ks = none
-inside_first w (number b) ks = none
-inside_first w (quoted_string b) ks = none
-inside_first w (list_of vs cl) ks = none
+inside_first w (identifier b) ks = None
+inside_first w (number b) ks = None
+inside_first w (quoted_string b) ks = None
+inside_first w (list_of vs cl) ks = None
 inside_first w (map_of kvs cl) ks = first_in (suc w) kvs ks
-inside_first w (variant_of n vs cl) ks = none
+inside_first w (variant_of n vs cl) ks = None
 
-first_end : (w : ℕ) (v : TokenValue) → first_some (reached_at w v []) ≡ some w
+first_end : (w : ℕ) (v : TokenValue) → first_some (reached_at w v []) ≡ Some w
 unfolding reached
 first_end w (identifier b) = refl
 first_end w (number b) = refl
@@ -120,7 +120,7 @@ first_on w (list_of vs cl) k ks = refl
 first_on w (map_of kvs cl) k ks = refl
 first_on w (variant_of n vs cl) k ks = refl
 
-pub first_other : (w : ℕ) (v : TokenValue) (ks : Path) → (kind_of v ≡ 5 → ⊥) → inside_first w v ks ≡ none
+pub first_other : (w : ℕ) (v : TokenValue) (ks : Path) → (kind_of v ≡ 5 → ⊥) → inside_first w v ks ≡ None
 first_other w (identifier b) ks h = refl
 first_other w (number b) ks h = refl
 first_other w (quoted_string b) ks h = refl
@@ -136,21 +136,21 @@ first_append : (a b : List ℕ) → first_some (a ++ b) ≡ unless (first_some a
 first_append [] b = refl
 first_append (x ∷ a) b = refl
 
-pub no_first : (n : ℕ) (ks : Path) → first_in n no_pairs ks ≡ none
+pub no_first : (n : ℕ) (ks : Path) → first_in n no_pairs ks ≡ None
 unfolding reached
 no_first n [] = refl
 no_first n (k ∷ ks) = refl
 
 -- a pair that a path's first key names, or not, and those behind it
 first_pair : (n w : ℕ) (key val : TokenTree) (kvs : KeyValues) (k : Key) (ks : Path) → w ≡ n + count key + length (prefix_of val)
-    → first_in n (pair key val kvs) (k ∷ ks) ≡ unless (cond (is_key k (key_of key)) (first_some (reached_at w (value_of val) ks)) none) (first_in (n + count key + count val) kvs (k ∷ ks))
+    → first_in n (pair key val kvs) (k ∷ ks) ≡ unless (cond (is_key k (key_of key)) (first_some (reached_at w (value_of val) ks)) None) (first_in (n + count key + count val) kvs (k ∷ ks))
 unfolding reached
 first_pair n w key val kvs k ks e = go (is_key k (key_of key))
   where
     rest : List ℕ
     rest = reached_in (n + count key + count val) kvs k ks
 
-    go : (b : Bool) → first_some (elim b [ true ↦ reached (n + count key) val ks | false ↦ [] ] ++ rest) ≡ unless (cond b (first_some (reached_at w (value_of val) ks)) none) (first_some rest)
+    go : (b : Bool) → first_some (elim b [ true ↦ reached (n + count key) val ks | false ↦ [] ] ++ rest) ≡ unless (cond b (first_some (reached_at w (value_of val) ks)) None) (first_some rest)
     go true =
         first_append (reached (n + count key) val ks) rest
         ∙ ap (λ (l : List ℕ). unless (first_some l) (first_some rest)) (reached_tree (n + count key) val ks ∙ ap (λ (m : ℕ). reached_at m (value_of val) ks) (sym e))
@@ -233,7 +233,7 @@ module _ (q keys : List ℕ) where
             gains = gains_nothing (λ p. ap (λ (l : List ℕ). among l (λ p. inside_first w v (rest (d + 1) p)) p) e);
           }
 
-      no : (b : Bool) → ◌≡◌ {A = Option ℕ} (cond b none none) none
+      no : (b : Bool) → ◌≡◌ {A = Option ℕ} (cond b None None) None
       no true = refl
       no false = refl
 
@@ -242,7 +242,7 @@ module _ (q keys : List ℕ) where
           record {
             steps = sym (steps_other (onward key (all d live)) v e);
             size = z;
-            gains = gains_nothing (λ p. ap (λ (o : Option ℕ). cond (elem p (keep on live)) o none) (first_other w v (rest (d + 1) p) e) ∙ no (elem p (keep on live)));
+            gains = gains_nothing (λ p. ap (λ (o : Option ℕ). cond (elem p (keep on live)) o None) (first_other w v (rest (d + 1) p) e) ∙ no (elem p (keep on live)));
           }
 
       pub inner_map : (w : ℕ) (kvs : KeyValues) (cl : List Slice) (old answers : List ℕ) (r : ℕ) → 0 < length (keep on live)
@@ -260,7 +260,7 @@ module _ (q keys : List ℕ) where
           → unless (unless (among live (ends_at q keys d key w) p) (among (keep on live) (λ x. inside_first w (value_of val) (rest (d + 1) x)) p)) (among live (λ x. first_in (n + count kt + count val) kvs (rest d x)) p)
           ≡ among live (λ x. first_in n (pair kt val kvs) (rest d x)) p
       pair_gives n w kt val kvs ke we p =
-          ap (λ (b : Bool). unless (unless (among live (ends_at q keys d key w) p) (cond b (inside_first w (value_of val) (rest (d + 1) p)) none)) (among live (λ x. first_in (n + count kt + count val) kvs (rest d x)) p)) (elem_keep on live p)
+          ap (λ (b : Bool). unless (unless (among live (ends_at q keys d key w) p) (cond b (inside_first w (value_of val) (rest (d + 1) p)) None)) (among live (λ x. first_in (n + count kt + count val) kvs (rest d x)) p)) (elem_keep on live p)
           ∙ go (elem p live) refl
         where
           k : Key
@@ -273,8 +273,8 @@ module _ (q keys : List ℕ) where
           here = inside_first w (value_of val) (rest (d + 1) p)
 
           by : (a b : Bool) → ltb (d + 1) (get_or keys p 0) ≡ b
-              → unless (unless (cond (a && not b) (some w) none) (cond (a && b) (inside_first w (value_of val) (rest (d + 1) p)) none)) (first_in (n + count kt + count val) kvs (rest d p))
-              ≡ unless (cond a (first_some (reached_at w (value_of val) (rest (d + 1) p))) none) (first_in (n + count kt + count val) kvs (rest d p))
+              → unless (unless (cond (a && not b) (Some w) None) (cond (a && b) (inside_first w (value_of val) (rest (d + 1) p)) None)) (first_in (n + count kt + count val) kvs (rest d p))
+              ≡ unless (cond a (first_some (reached_at w (value_of val) (rest (d + 1) p))) None) (first_in (n + count kt + count val) kvs (rest d p))
           by true true f =
               let e = rest_step (d + 1) p (lt_of (d + 1) (get_or keys p 0) f) in
               ap (λ (o : Option ℕ). unless o (first_in (n + count kt + count val) kvs (rest d p)))
@@ -285,11 +285,11 @@ module _ (q keys : List ℕ) where
           by false b f = refl
 
           go : (c : Bool) → elem p live ≡ c
-              → unless (unless (cond (elem p live) (ends_at q keys d key w p) none) (cond (elem p live && on p) (inside_first w (value_of val) (rest (d + 1) p)) none)) (cond (elem p live) (first_in (n + count kt + count val) kvs (rest d p)) none)
-              ≡ cond (elem p live) (first_in n (pair kt val kvs) (rest d p)) none
+              → unless (unless (cond (elem p live) (ends_at q keys d key w p) None) (cond (elem p live && on p) (inside_first w (value_of val) (rest (d + 1) p)) None)) (cond (elem p live) (first_in (n + count kt + count val) kvs (rest d p)) None)
+              ≡ cond (elem p live) (first_in n (pair kt val kvs) (rest d p)) None
           go true e =
               let s = rest_step d p (g p e).more in
               rw e (by (matches q keys d key p) (ltb (d + 1) (get_or keys p 0)) refl
               ∙ sym (ap (first_in n (pair kt val kvs)) s ∙ first_pair n w kt val kvs (key_at q keys (place_of p d)) (rest (d + 1) p) we
-              ∙ ap₂ (λ (b : Option Key) (r : Path). unless (cond (is_key (key_at q keys (place_of p d)) b) (first_some (reached_at w (value_of val) (rest (d + 1) p))) none) (first_in (n + count kt + count val) kvs r)) ke (sym s)))
+              ∙ ap₂ (λ (b : Option Key) (r : Path). unless (cond (is_key (key_at q keys (place_of p d)) b) (first_some (reached_at w (value_of val) (rest (d + 1) p))) None) (first_in (n + count kt + count val) kvs r)) ke (sym s)))
           go false e = rw e

@@ -1,12 +1,12 @@
+use Rattle.std.specs.Prelude.{Option, None, Some}
 -- Which numbers refuse a lookup: those of the event and its table, then those of the path text and its table, then 28. A refusal hands back
 -- 128 times 'none'.
 use mathlib.Core.Path.{◌≡◌, refl, sym, ap, ap₂}
 use mathlib.Core.Logic.{◌⊎◌, inl, inr}
 use mathlib.Core.List.{List, [], ◌∷◌}
-use mathlib.Core.Option.{Option, none, some}
 use Prim.Native.Nat.{ℕ, zero, suc}
 use lib.ListN.{replicate}
-use Rattle.eon_spec.specs.declared.Refusal.{Refusal}
+use Rattle.eon_spec.specs.Refused.{Refusal}
 use Rattle.eon_spec.specs.declared.Found.{Found}
 use Rattle.eon_spec.specs.declared.Answer.{Answer}
 use Rattle.eon_spec.specs.declared.Answer.TheVariants as answer
@@ -26,8 +26,8 @@ module _ (s sTable q qTable : List ℕ) (r : Refusal) where
       behind t u = then (or_refused 28 (path_list u)) λ ps. done (looked t ps)
 
       by_form : (t : TokenTree) (o : Option (List Path)) → then (or_refused 28 o) (λ ps. done (looked t ps)) ≡ refused_with r → r ≡ nowhere 28
-      by_form t none f = let z : nowhere 28 ≡ r = cc in sym z
-      by_form t (some ps) f = answers_not (looked t ps) r f
+      by_form t None f = let z : nowhere 28 ≡ r = cc in sym z
+      by_form t (Some ps) f = answers_not (looked t ps) r f
 
       paths : (t : TokenTree) → OfTable r ⊎ ((u : TokenTree) × (read_finished q qTable ≡ done u) × (behind t u ≡ refused_with r)) → OfTable r ⊎ (r ≡ nowhere 28)
       paths t (inl n) = inl n

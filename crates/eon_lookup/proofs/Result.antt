@@ -1,8 +1,8 @@
+use Rattle.std.specs.Prelude.{Option, None, Some}
 -- What the walk's answers are as the call hands them back, and the order of the refusals.
 use mathlib.Core.Path.{◌≡◌, refl, sym, ap, ap₂, ◌∙◌}
 use mathlib.Core.Bool.{Bool, true, false, cond}
 use mathlib.Core.List.{List, [], ◌∷◌, ◌++◌}
-use mathlib.Core.Option.{Option, none, some}
 use Prim.Native.Nat.{ℕ, zero, suc, ◌+◌, ◌-◌, ◌≤◌, ◌<◌}
 use native.Mathlib.Omega.{arith}
 use native.Mathlib.Decide.{dec_lt}
@@ -11,7 +11,7 @@ use lib.Seq.{get_or-append-add}
 use lib.Dec.{eqb}
 use Rattle.eon_spec.specs.Base.{elem}
 use Rattle.eon_spec.specs.Tree.{TokenTree}
-use Rattle.eon_spec.specs.declared.Refusal.{Refusal}
+use Rattle.eon_spec.specs.Refused.{Refusal}
 use Rattle.eon_spec.specs.declared.Answer.TheVariants as answer
 use Rattle.eon_spec.specs.Calls.{Outcome, done, refused_with, then, or_refused, nowhere, read_finished}
 use Rattle.eon_spec.specs.Lookup.{paths_max, none_word, Path, Looked, path_list, reached, reached_by_each, looked, lookup_call, SomeOf, SomeOfEach, IsLookup}
@@ -25,16 +25,16 @@ use Rattle.eon_lookup.proofs.Forms.{rests_length}
 
 -- ---- a word that is the first of the values reached is some of them
 
-some_inj : (a b : ℕ) → some a ≡ some b → a ≡ b
+some_inj : (a b : ℕ) → Some a ≡ Some b → a ≡ b
 some_inj a b e = cc
 
-some_none : {A : Type 0} (a : ℕ) → ◌≡◌ {A = Option ℕ} (some a) none → A
+some_none : {A : Type 0} (a : ℕ) → ◌≡◌ {A = Option ℕ} (Some a) None → A
 some_none a e = absurd (let z : ◌≡◌ {A = ℕ} 0 1 = cc in omega arith)
 
 word_some : (ns : List ℕ) (w : ℕ) → answer_of w ≡ first_some ns → SomeOf ns w
 word_some ns w e = go ns (eqb w none_word) refl e
   where
-    go : (ns : List ℕ) (b : Bool) → eqb w none_word ≡ b → cond b none (some w) ≡ first_some ns → SomeOf ns w
+    go : (ns : List ℕ) (b : Bool) → eqb w none_word ≡ b → cond b None (Some w) ≡ first_some ns → SomeOf ns w
     go [] true p e = eq_of w none_word p
     go [] false p e = some_none w e
     go (n ∷ ns) true p e = some_none n (sym e)
@@ -65,7 +65,7 @@ nothing_at zero p = refl
 nothing_at (suc n) zero = refl
 nothing_at (suc n) (suc p) = nothing_at n p
 
-none_at : (n p : ℕ) → p < n → answer_of (get_or (replicate {A = ℕ} n none_word) p 0) ≡ none
+none_at : (n p : ℕ) → p < n → answer_of (get_or (replicate {A = ℕ} n none_word) p 0) ≡ None
 none_at zero p h = absurd (omega arith)
 none_at (suc n) zero h = refl
 none_at (suc n) (suc p) h = none_at n p (omega arith)
@@ -106,7 +106,7 @@ module _ (q keys : List ℕ) (t : TokenTree) (n : ℕ) (few : n ≤ paths_max) w
   all_at : (p : ℕ) → first_some (get_or all p []) ≡ among (below n) first p
   all_at p = go (elem p (below n)) refl
     where
-      go : (b : Bool) → elem p (below n) ≡ b → first_some (get_or all p []) ≡ cond b (first p) none
+      go : (b : Bool) → elem p (below n) ≡ b → first_some (get_or all p []) ≡ cond b (first p) None
       go true e =
           let h : p < n = in_below n p e in
           ap first_some
@@ -167,8 +167,8 @@ module _ (s st q tq : List ℕ) where
       unfolding lookup_call
       behind_both o e = ap₂ outcome h k ∙ ap (λ (o : Option (List Path)). then (or_refused 28 o) (λ ps. done (looked t ps))) e
 
-      pub form_refused : path_list u ≡ none → lookup_call s st q tq ≡ refused_with (nowhere 28)
-      form_refused e = behind_both none e
+      pub form_refused : path_list u ≡ None → lookup_call s st q tq ≡ refused_with (nowhere 28)
+      form_refused e = behind_both None e
 
-      pub looked_up : (ps : List Path) → path_list u ≡ some ps → lookup_call s st q tq ≡ done (looked t ps)
-      looked_up ps e = behind_both (some ps) e
+      pub looked_up : (ps : List Path) → path_list u ≡ Some ps → lookup_call s st q tq ≡ done (looked t ps)
+      looked_up ps e = behind_both (Some ps) e

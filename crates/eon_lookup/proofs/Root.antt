@@ -1,8 +1,8 @@
+use Rattle.std.specs.Prelude.{Option, None}
 -- The walk of a whole tree.
 use mathlib.Core.Path.{◌≡◌, refl, sym, ap, ◌∙◌}
 use mathlib.Core.Bool.{Bool, true, false, cond}
 use mathlib.Core.List.{List, []}
-use mathlib.Core.Option.{Option, none}
 use Prim.Native.Nat.{ℕ, suc, ◌+◌, ◌<◌}
 use native.Mathlib.Omega.{arith}
 use lib.ListN.{length}
@@ -19,11 +19,11 @@ use Rattle.eon_lookup.proofs.Pairs.{steps_tree, steps_dead, steps_other, steps_m
 among_same : (live : List ℕ) (f g : ℕ → Option ℕ) → ((p : ℕ) → elem p live ≡ true → f p ≡ g p) → (p : ℕ) → among live f p ≡ among live g p
 among_same live f g h p = go (elem p live) refl
   where
-    go : (b : Bool) → elem p live ≡ b → cond b (f p) none ≡ cond b (g p) none
+    go : (b : Bool) → elem p live ≡ b → cond b (f p) None ≡ cond b (g p) None
     go true e = h p e
     go false e = refl
 
-no : (b : Bool) → ◌≡◌ {A = Option ℕ} (cond b none none) none
+no : (b : Bool) → ◌≡◌ {A = Option ℕ} (cond b None None) None
 no true = refl
 no false = refl
 
@@ -57,7 +57,7 @@ module _ (q keys live : List ℕ) (g : Going keys 0 live) (t : TokenTree) where
       record {
         steps = sym (steps_tree ps t ∙ ap suc (steps_other ps (value_of t) e));
         size = z;
-        gains = gains_nothing (λ p. among_same live (λ p. first_some (reached 0 t (rest p))) (λ p. none) (λ p h. sym (root_first (0 + length (prefix_of t)) refl p h) ∙ first_other (0 + length (prefix_of t)) (value_of t) (rest p) e) p ∙ no (elem p live));
+        gains = gains_nothing (λ p. among_same live (λ p. first_some (reached 0 t (rest p))) (λ p. None) (λ p h. sym (root_first (0 + length (prefix_of t)) refl p h) ∙ first_other (0 + length (prefix_of t)) (value_of t) (rest p) e) p ∙ no (elem p live));
       }
 
   pub root_map : (w : ℕ) (kvs : KeyValues) (cl : List Slice) (old answers : List ℕ) (r : ℕ) → value_of t ≡ map_of kvs cl → w ≡ 0 + length (prefix_of t) → 0 < length live

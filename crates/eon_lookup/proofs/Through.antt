@@ -1,8 +1,8 @@
+use Rattle.std.specs.Prelude.{Option, None}
 -- On the way through a map's pairs: what is left, what was counted, and what the paths have.
 use mathlib.Core.Path.{◌≡◌, refl, sym, ap, ◌∙◌}
 use mathlib.Core.Bool.{Bool, true, false, cond}
 use mathlib.Core.List.{List}
-use mathlib.Core.Option.{Option, none}
 use Prim.Native.Nat.{ℕ, suc, ◌+◌, ◌≤◌, ◌<◌}
 use native.Mathlib.Omega.{arith}
 use lib.ListN.{length, get_or}
@@ -54,7 +54,7 @@ module _ (s tb : List ℕ) (end : ℕ) (q keys : List ℕ) (d : ℕ) (live : Lis
   pub through_start : (kvs : KeyValues) (cl : List Slice) (base : ℕ) (old : List ℕ) → PairedAt s tb end base kvs cl → Through kvs cl base old old base 0
   through_start kvs cl base old h = record { left = kvs; inside = h; steps = omega arith; gains = λ p. refl }
 
-  no : (b : Bool) → ◌≡◌ {A = Option ℕ} (cond b none none) none
+  no : (b : Bool) → ◌≡◌ {A = Option ℕ} (cond b None None) None
   no true = refl
   no false = refl
 
@@ -70,7 +70,7 @@ module _ (s tb : List ℕ) (end : ℕ) (q keys : List ℕ) (d : ℕ) (live : Lis
         gains = record {
           has = λ p.
               sym (unless_none (answer_of (get_or answers p 0)))
-              ∙ ap (unless (answer_of (get_or answers p 0))) (sym (ap (λ (l : KeyValues). gives j l p) e ∙ ap (λ (o : Option ℕ). cond (elem p live) o none) (no_first j (rest_at q keys d p)) ∙ no (elem p live)))
+              ∙ ap (unless (answer_of (get_or answers p 0))) (sym (ap (λ (l : KeyValues). gives j l p) e ∙ ap (λ (o : Option ℕ). cond (elem p live) o None) (no_first j (rest_at q keys d p)) ∙ no (elem p live)))
               ∙ t.gains p;
         };
       }

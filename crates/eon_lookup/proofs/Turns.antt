@@ -1,8 +1,8 @@
+use Rattle.std.specs.Prelude.{Option, None, Some}
 -- KeyMatched a key of the event: the turns over the paths.
 use mathlib.Core.Path.{◌≡◌, refl, sym, ap, ap₂, ◌∙◌, subst}
 use mathlib.Core.Bool.{Bool, true, false, ◌&&◌, not, cond}
 use mathlib.Core.List.{List, [], ◌∷◌, ◌++◌}
-use mathlib.Core.Option.{Option, none, some}
 use Prim.Native.Nat.{ℕ, ◌+◌, ◌≤◌, ◌<◌}
 use native.Mathlib.Omega.{arith}
 use native.Mathlib.Numerals.{add-one}
@@ -18,11 +18,11 @@ use Rattle.eon_lookup.specs.Keys.{place_of, key_kind, key_here, key_at, GoesOn, 
 use Rattle.eon_lookup.specs.Live.{answered, Gains, among, keep, matches, ends_at, goes_on, KeyMatched}
 use Rattle.eon_lookup.proofs.Lists.{elem_at, keep_append, gains_nothing, gains_then, gave, among_more}
 
-pub no_key : (s tb : List ℕ) (k : ℕ) → key_kind (word tb k 0) ≡ false → key_here s tb k ≡ none
-no_key s tb k e = ap (λ (b : Bool). cond b (some (record_text s (record_of tb k))) none) e
+pub no_key : (s tb : List ℕ) (k : ℕ) → key_kind (word tb k 0) ≡ false → key_here s tb k ≡ None
+no_key s tb k e = ap (λ (b : Bool). cond b (Some (record_text s (record_of tb k))) None) e
 
-pub a_key : (s tb : List ℕ) (k : ℕ) → key_kind (word tb k 0) ≡ true → key_here s tb k ≡ some (record_text s (record_of tb k))
-a_key s tb k e = ap (λ (b : Bool). cond b (some (record_text s (record_of tb k))) none) e
+pub a_key : (s tb : List ℕ) (k : ℕ) → key_kind (word tb k 0) ≡ true → key_here s tb k ≡ Some (record_text s (record_of tb k))
+a_key s tb k e = ap (λ (b : Bool). cond b (Some (record_text s (record_of tb k))) None) e
 
 pub going_at : (keys : List ℕ) (d : ℕ) (live : List ℕ) → Going keys d live → (i : ℕ) → i < length live → GoesOn keys d (get_or live i 0)
 going_at keys d live g i h = g (get_or live i 0) (elem_at live i h)
@@ -55,11 +55,11 @@ module _ (q keys : List ℕ) (d : ℕ) (key : Option Key) (live : List ℕ) (w :
       record { few = omega arith; size = t.size; room = t.room; list = t.list ∙ ap (keep on) e; gains = subst (λ (ps : List ℕ). Gains (among ps ends) old answers) e t.gains }
 
   -- what the test of two texts says
-  pub text_says : (b : List ℕ) → key ≡ some b → (p : ℕ) (z : Bool) → z ≡ eq_list (key_at q keys (place_of p d)) b → matches q keys d key p ≡ z
+  pub text_says : (b : List ℕ) → key ≡ Some b → (p : ℕ) (z : Bool) → z ≡ eq_list (key_at q keys (place_of p d)) b → matches q keys d key p ≡ z
   text_says b e p z f = ap (is_key (key_at q keys (place_of p d))) e ∙ sym f
 
   -- the event's key is none
-  pub none_matched : (next : List ℕ) → length old ≡ 128 → length next ≡ 128 → key ≡ none → KeyMatched q keys d key live w old old next 0
+  pub none_matched : (next : List ℕ) → length old ≡ 128 → length next ≡ 128 → key ≡ None → KeyMatched q keys d key live w old old next 0
   none_matched next h k e =
       record { few = omega arith; size = h; room = k; list = sym (all live); gains = gains_nothing (λ p. nothing p) }
     where
@@ -70,12 +70,12 @@ module _ (q keys : List ℕ) (d : ℕ) (key : Option Key) (live : List ℕ) (w :
       all [] = refl
       all (p ∷ l) = ap (λ (b : Bool). cond (b && ltb (d + 1) (get_or keys p 0)) (p ∷ keep on l) (keep on l)) (off p) ∙ all l
 
-      no : (b : Bool) → ◌≡◌ {A = Option ℕ} (cond b none none) none
+      no : (b : Bool) → ◌≡◌ {A = Option ℕ} (cond b None None) None
       no true = refl
       no false = refl
 
-      nothing : (p : ℕ) → among live ends p ≡ none
-      nothing p = ap (λ (b : Bool). among live (λ x. cond (b && not (ltb (d + 1) (get_or keys p 0))) (some w) none) p) (off p) ∙ no (elem p live)
+      nothing : (p : ℕ) → among live ends p ≡ None
+      nothing p = ap (λ (b : Bool). among live (λ x. cond (b && not (ltb (d + 1) (get_or keys p 0))) (Some w) None) p) (off p) ∙ no (elem p live)
 
   module _ (answers next : List ℕ) (n i : ℕ) (t : Turns answers next n i) (h : i < length live) where
     abbrev p : ℕ
@@ -88,7 +88,7 @@ module _ (q keys : List ℕ) (d : ℕ) (key : Option Key) (live : List ℕ) (w :
     lists b e = ap (keep on) more ∙ keep_append on (take i live) (p ∷ []) ∙ ap (λ (c : Bool). keep on (take i live) ++ cond c (p ∷ []) []) e
 
     -- answers that gain what path p gains
-    gained : (answers' : List ℕ) → Gains (λ x. cond (eqb x p) (ends p) none) answers answers' → Gains (among (take (i + 1) live) ends) old answers'
+    gained : (answers' : List ℕ) → Gains (λ x. cond (eqb x p) (ends p) None) answers answers' → Gains (among (take (i + 1) live) ends) old answers'
     gained answers' g =
         gains_then t.gains g (λ x. among_more (take i live) p ends x ∙ ap (λ (ps : List ℕ). among ps ends x) (sym more))
 
@@ -96,10 +96,10 @@ module _ (q keys : List ℕ) (d : ℕ) (key : Option Key) (live : List ℕ) (w :
     nil [] = refl
     nil (x ∷ l) = ap (λ (m : List ℕ). x ∷ m) (nil l)
 
-    stay : ends p ≡ none → Gains (λ x. cond (eqb x p) (ends p) none) answers answers
-    stay e = gains_nothing (λ x. ap (λ (o : Option ℕ). cond (eqb x p) o none) e ∙ no (eqb x p))
+    stay : ends p ≡ None → Gains (λ x. cond (eqb x p) (ends p) None) answers answers
+    stay e = gains_nothing (λ x. ap (λ (o : Option ℕ). cond (eqb x p) o None) e ∙ no (eqb x p))
       where
-        no : (b : Bool) → ◌≡◌ {A = Option ℕ} (cond b none none) none
+        no : (b : Bool) → ◌≡◌ {A = Option ℕ} (cond b None None) None
         no true = refl
         no false = refl
 
@@ -113,7 +113,7 @@ module _ (q keys : List ℕ) (d : ℕ) (key : Option Key) (live : List ℕ) (w :
           size = t.size;
           room = t.room;
           list = t.list ∙ sym (lists false (ap (λ (b : Bool). b && ltb (d + 1) (get_or keys p 0)) e) ∙ nil (keep on (take i live)));
-          gains = gained answers (stay (ap (λ (b : Bool). cond (b && not (ltb (d + 1) (get_or keys p 0))) (some w) none) e));
+          gains = gained answers (stay (ap (λ (b : Bool). cond (b && not (ltb (d + 1) (get_or keys p 0))) (Some w) None) e));
         }
 
     -- this key, and a further one is left
@@ -128,7 +128,7 @@ module _ (q keys : List ℕ) (d : ℕ) (key : Option Key) (live : List ℕ) (w :
           size = t.size;
           room = length-set next n p ∙ r;
           list = ap (λ (m : ℕ). take m (set next n p)) (add-one n) ∙ take-suc-set next n p (omega arith) ∙ ap (λ (l : List ℕ). l ++ (p ∷ [])) t.list ∙ sym (lists true f);
-          gains = gained answers (stay (ap₂ (λ (a b : Bool). cond (a && not b) (some w) none) e (lt-ltb (d + 1) (get_or keys p 0) l)));
+          gains = gained answers (stay (ap₂ (λ (a b : Bool). cond (a && not b) (Some w) None) e (lt-ltb (d + 1) (get_or keys p 0) l)));
         }
 
     -- this key, and the path ends
@@ -138,14 +138,14 @@ module _ (q keys : List ℕ) (d : ℕ) (key : Option Key) (live : List ℕ) (w :
         let m : n ≤ i = t.few in
         let z : length answers ≡ 128 = t.size in
         let f : on p ≡ false = ap₂ (λ (a b : Bool). a && b) e (le-ltb (d + 1) (get_or keys p 0) l) in
-        let o : ends p ≡ some w = ap₂ (λ (a b : Bool). cond (a && not b) (some w) none) e (le-ltb (d + 1) (get_or keys p 0) l) in
+        let o : ends p ≡ Some w = ap₂ (λ (a b : Bool). cond (a && not b) (Some w) None) e (le-ltb (d + 1) (get_or keys p 0) l) in
         record {
           few = omega arith;
           inside = omega arith;
           size = ap length a ∙ same (eqb (get_or answers p 0) 4294967295) ∙ z;
           room = t.room;
           list = t.list ∙ sym (lists false f ∙ nil (keep on (take i live)));
-          gains = gained answers' (subst (λ (x : List ℕ). Gains (λ x. cond (eqb x p) (ends p) none) answers x) (sym a) (subst (λ (x : Option ℕ). Gains (λ y. cond (eqb y p) x none) answers (answered answers p w)) (sym o) (gave answers p w (omega arith) v)));
+          gains = gained answers' (subst (λ (x : List ℕ). Gains (λ x. cond (eqb x p) (ends p) None) answers x) (sym a) (subst (λ (x : Option ℕ). Gains (λ y. cond (eqb y p) x None) answers (answered answers p w)) (sym o) (gave answers p w (omega arith) v)));
         }
       where
         same : (b : Bool) → length (cond b (set answers p w) answers) ≡ length answers

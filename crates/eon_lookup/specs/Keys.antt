@@ -1,7 +1,6 @@
 -- The paths as the walk has them, in words: how many keys each path has, then for each path where its keys' texts start and end in the path
 -- text.
-use Rattle.std.specs.Prelude.{ℕ, zero, suc, ◌+◌, ◌-◌, ◌*◌, ◌≤◌, ◌<◌, ◌≡◌, Bool, true, ◌||◌, cond, List, [], ◌∷◌, ◌++◌, length, get_or, leb, eqb}
-use Rattle.std.proofs.Math.Option.{Option, none, some}
+use Rattle.std.specs.Prelude.{ℕ, zero, suc, ◌+◌, ◌-◌, ◌*◌, ◌≤◌, ◌<◌, ◌≡◌, Bool, true, ◌||◌, cond, List, [], ◌∷◌, ◌++◌, length, get_or, leb, eqb, Option, None, Some}
 use Rattle.eon_spec.specs.Base.{elem}
 use Rattle.eon_spec.specs.Tree.{TokenTree, TokenValue}
 use Rattle.eon_spec.specs.Calls.{record_text}
@@ -24,7 +23,7 @@ key_kind k = eqb k IDENTIFIER || eqb k STRING
 
 -- the key that record i is, if it is one
 abbrev pub key_here : List ℕ → List ℕ → ℕ → Option Key
-key_here s tb i = cond (key_kind (word tb i 0)) (some (record_text s (record_of tb i))) none
+key_here s tb i = cond (key_kind (word tb i 0)) (Some (record_text s (record_of tb i))) None
 
 -- the numbers below n
 abbrev pub below : ℕ → List ℕ
@@ -62,8 +61,8 @@ Going keys d ps = (p : ℕ) → elem p ps ≡ true → GoesOn keys d p
 
 -- r keys were found; none if there is no path
 abbrev pub made : ℕ → Path → Option Path
-made zero ks = none
-made (suc n) ks = some ks
+made zero ks = None
+made (suc n) ks = Some ks
 
 -- the path that a value is, its keys stored from `base` on; words before it stay
 pub record OnePath (tq : List ℕ) (i base : ℕ) (keys keys' : List ℕ) (r : ℕ) : Type 0 where
@@ -74,5 +73,5 @@ pub record OnePath (tq : List ℕ) (i base : ℕ) (keys keys' : List ℕ) (r : �
 
 -- r paths were found; more than paths_max if there is no path list
 pub record AllPaths (tq keys : List ℕ) (r : ℕ) : Type 0 where
-  pub is : (q : List ℕ) (end : ℕ) (u : TokenTree) → TreeAt q tq end 0 u → path_list u ≡ cond (leb r paths_max) (some (rests q keys 0 (below r))) none
+  pub is : (q : List ℕ) (end : ℕ) (u : TokenTree) → TreeAt q tq end 0 u → path_list u ≡ cond (leb r paths_max) (Some (rests q keys 0 (below r))) None
   pub going : r ≤ paths_max → Going keys 0 (below r)

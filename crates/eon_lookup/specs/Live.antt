@@ -1,6 +1,5 @@
 -- The walk's answers: of each path the first value that it reaches.
-use Rattle.std.specs.Prelude.{ℕ, ◌+◌, ◌≤◌, ◌≡◌, Bool, ◌&&◌, not, cond, List, [], ◌∷◌, length, get_or, take, set, ltb, eqb}
-use Rattle.std.proofs.Math.Option.{Option, none, some}
+use Rattle.std.specs.Prelude.{ℕ, ◌+◌, ◌≤◌, ◌≡◌, Bool, ◌&&◌, not, cond, List, [], ◌∷◌, length, get_or, take, set, ltb, eqb, Option, None, Some}
 use Rattle.eon_spec.specs.Base.{elem}
 use Rattle.eon_spec.specs.Tree.{TokenTree, KeyValues}
 use Rattle.eon_spec.specs.Lookup.{paths_max, none_word, Key, Path, is_key, reached_in, steps_in, steps, reached}
@@ -8,17 +7,17 @@ use Rattle.eon_lookup.specs.Keys.{place_of, key_at, rest_at, rests}
 
 -- the first of the values reached, in table order
 abbrev pub first_some : List ℕ → Option ℕ
-first_some [] = none
-first_some (n ∷ ns) = some n
+first_some [] = None
+first_some (n ∷ ns) = Some n
 
 -- the answer that a word is
 abbrev pub answer_of : ℕ → Option ℕ
-answer_of w = cond (eqb w none_word) none (some w)
+answer_of w = cond (eqb w none_word) None (Some w)
 
 -- an answer that a path has is kept
 abbrev pub unless : Option ℕ → Option ℕ → Option ℕ
-unless none b = b
-unless (some a) b = some a
+unless None b = b
+unless (Some a) b = Some a
 
 -- path p is answered by record w, unless it has an answer
 abbrev pub answered : List ℕ → ℕ → ℕ → List ℕ
@@ -30,7 +29,7 @@ pub record Gains (new : ℕ → Option ℕ) (old answers : List ℕ) : Type 0 wh
 
 -- only the paths of a list
 abbrev pub among : List ℕ → (ℕ → Option ℕ) → ℕ → Option ℕ
-among ps f p = cond (elem p ps) (f p) none
+among ps f p = cond (elem p ps) (f p) None
 
 -- the numbers of a list that pass
 abbrev pub keep : (ℕ → Bool) → List ℕ → List ℕ
@@ -39,7 +38,7 @@ keep f (p ∷ ps) = cond (f p) (p ∷ keep f ps) (keep f ps)
 
 -- the first value that a path, which has a key, reaches in a map's pairs
 abbrev pub first_in : ℕ → KeyValues → Path → Option ℕ
-first_in n kvs [] = none
+first_in n kvs [] = None
 first_in n kvs (k ∷ ks) = first_some (reached_in n kvs k ks)
 
 module _ (q keys : List ℕ) (d : ℕ) (key : Option Key) where
@@ -49,7 +48,7 @@ module _ (q keys : List ℕ) (d : ℕ) (key : Option Key) where
 
   -- and ends with it, or goes on
   abbrev pub ends_at : ℕ → ℕ → Option ℕ
-  ends_at w p = cond (matches p && not (ltb (d + 1) (get_or keys p 0))) (some w) none
+  ends_at w p = cond (matches p && not (ltb (d + 1) (get_or keys p 0))) (Some w) None
 
   abbrev pub goes_on : ℕ → Bool
   goes_on p = matches p && ltb (d + 1) (get_or keys p 0)

@@ -1,7 +1,7 @@
+use Rattle.std.specs.Prelude.{None, Some}
 -- What is written on one line.
 use mathlib.Core.Path.{◌≡◌, refl, sym, ap, ◌∙◌, subst}
 use mathlib.Core.Bool.{Bool, true, false, ◌&&◌, cond}
-use mathlib.Core.Option.{none, some}
 use mathlib.Core.List.{List, [], ◌∷◌, ◌++◌, append_assoc, append-nil}
 use Prim.Native.Nat.{ℕ, ◌+◌, ◌-◌, ◌≤◌, ◌<◌}
 use native.Mathlib.Omega.{arith}
@@ -80,8 +80,8 @@ module _ (s tb : List ℕ) (o : Settings) (n : ℕ) where
   bare_plain : (end i : ℕ) (t : TokenTree) → TreeAt s tb end i t → is_simple t ≡ true → plain_at s tb i ≡ bare_value o n t
   unfolding bare_value
   bare_plain end i (tree sp (c ∷ cs) v x) h e = clash e refl
-  bare_plain end i (tree sp [] v (some c)) h e = clash e refl
-  bare_plain end i (tree sp [] v none) h e = plain_law i v (bare_value_lem s tb end i sp v none h) (value_one v e)
+  bare_plain end i (tree sp [] v (Some c)) h e = clash e refl
+  bare_plain end i (tree sp [] v None) h e = plain_law i v (bare_value_lem s tb end i sp v None h) (value_one v e)
 
   module _ (end : ℕ) where
     pub row_law : (vs : TokenTrees) (i : ℕ) → InsideAt s tb end i vs [] → all_trees is_simple vs ≡ true → plain_line s tb i (end - i) ≡ one_line o n vs

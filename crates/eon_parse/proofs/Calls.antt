@@ -11,7 +11,7 @@ use borrow.Author.Tests.{le-leb, lt-leb, ltb-true, ltb-false}
 use Rattle.eon_spec.specs.Base.{eq_list}
 use Rattle.eon_spec.specs.Utf8.{is_utf8, well_formed_len}
 use Rattle.eon_spec.specs.Tree.{Span, TokenTree}
-use Rattle.eon_spec.specs.declared.Refusal.{Refusal}
+use Rattle.eon_spec.specs.Refused.{Refusal}
 use Rattle.eon_spec.specs.Parse.{refusal, Parsed, parsed, refused_by, parse}
 use Rattle.eon_spec.specs.Records.{words, tree_records}
 use Rattle.eon_laws.proofs.Records.{words_length}

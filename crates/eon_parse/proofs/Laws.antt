@@ -9,7 +9,7 @@ use native.Mathlib.Numerals.{towards_suc}
 use native.Mathlib.Omega.{arith}
 use lib.ListN.{length, length-append}
 use Rattle.eon_spec.specs.Tree.{Span}
-use Rattle.eon_spec.specs.declared.Refusal.{Refusal}
+use Rattle.eon_spec.specs.Refused.{Refusal}
 use Rattle.eon_spec.specs.Records.{words}
 use Rattle.eon_laws.proofs.Records.{words_length}
 use Rattle.eon_token.specs.Place.{cursor_at}

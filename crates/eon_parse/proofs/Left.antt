@@ -9,7 +9,7 @@ use lib.ListN.{length, length-append}
 use lib.Dec.{eqb, ltb}
 use borrow.Author.Tests.{eqb-true, eqb-false, ltb-true}
 use Rattle.eon_spec.specs.Tree.{Span}
-use Rattle.eon_spec.specs.declared.Refusal.{Refusal}
+use Rattle.eon_spec.specs.Refused.{Refusal}
 use Rattle.eon_spec.specs.Records.{leaf}
 use Rattle.eon_token.specs.Place.{Spot, kind_at, next_span, line_feed}
 use Rattle.eon_parse.specs.Walk.{Out, refuse, got, bind, Records, strings, many, loop, comment, no_comment, run, expect, suffix_end, tail_r, Item, whole, settled, stops, one, two, inside, closed, header, list_at, map_at, variant_at, leaf_at, string_at, bare_at, item_at, reader, below}

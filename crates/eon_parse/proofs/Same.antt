@@ -1,9 +1,9 @@
+use Rattle.std.specs.Prelude.{Option, None, Some}
 -- Reading by places is reading by the list of tokens: the walk gives the records of the trees that `Parse` gives, and refuses as it does.
 -- Assumes nothing.
 use mathlib.Core.Path.{◌≡◌, refl, sym, ap, ◌∙◌}
 use mathlib.Core.Bool.{Bool, true, false, cond}
 use mathlib.Core.List.{List, [], ◌∷◌, ◌++◌, append_assoc, append-nil}
-use mathlib.Core.Option.{Option, none, some}
 use Prim.Native.Nat.{ℕ, zero, suc, ◌+◌, ◌≤◌, ◌<◌}
 use native.Mathlib.Omega.{arith}
 use native.Mathlib.Nat.{not-suc-le-zero}
@@ -11,9 +11,11 @@ use lib.ListN.{length}
 use lib.Dec.{eqb}
 use borrow.Author.Tests.{ne_eqb, eqb-true, eqb-false, lt-ltb, le-ltb}
 use Rattle.eon_spec.specs.Base.{elem}
-use Rattle.eon_spec.specs.Token.{Token, TokenKind, Invalid, Comment, OpenList, CloseList, OpenBrace, CloseBrace, OpenParen, CloseParen, Colon, Comma, Identifier, Number, DoubleQuotedString, SingleQuotedString, MultilineBasicString, MultilineLiteralString, kind_number, is_kind}
+use Rattle.eon_spec.specs.declared.token_kind.TokenKind.{TokenKind}
+use Rattle.eon_spec.specs.declared.token_kind.TokenKind.TheVariants.{Invalid, Comment, OpenList, CloseList, OpenBrace, CloseBrace, OpenParen, CloseParen, Colon, Comma, Identifier, Number, DoubleQuotedString, SingleQuotedString, MultilineBasicString, MultilineLiteralString}
+use Rattle.eon_spec.specs.Token.{Token, kind_number, is_kind}
 use Rattle.eon_spec.specs.Tree.{Span, Slice, TokenTree, TokenValue, TokenTrees, KeyValues, tree, identifier, number, quoted_string, list_of, map_of, variant_of, no_trees, ◌∷ᵗ◌, no_pairs, pair}
-use Rattle.eon_spec.specs.declared.Refusal.{Refusal}
+use Rattle.eon_spec.specs.Refused.{Refusal}
 use Rattle.eon_spec.specs.Parse.{refusal, Cursor, behind, last, rest, span_of, slice_of, Read, read, refused, bind as bindP, refuse_at, parse_comments, comments_at, suffix_comment, consume_token, next_is, at_end, skip, with_prefix, with_suffix, after_comma, TokenList, TokenMap, Reader, list_contents, map_contents, list_inside, map_inside, string_or_variant, value_of, tree_behind, tree_with, value_at, inside_at}
 use Rattle.eon_laws.proofs.Parse.{Progresses, comments_at_le, comma_le, consume_good, inside_at_good}
 use Rattle.eon_spec.specs.Records.{leaf, comments, suffix, tree_records, value_records, trees_records, pairs_records}
@@ -142,10 +144,10 @@ module _ (s : List ℕ) where
   unfolding tail_r
   tail_one m n h = ap (λ (b : Bool). cond b (leaf 8 n ∷ []) []) (lt-ltb m.end n.end h)
 
-  stays : (n : Span) → suffix_end s n ≡ n → suffix_comment (C n) ≡ (none, C n) → Tail n
+  stays : (n : Span) → suffix_end s n ≡ n → suffix_comment (C n) ≡ (None, C n) → Tail n
   stays n e p = record {
-    found = none;
-    parsed = p ∙ ap (λ (l : Span). (none, C l)) (sym e);
+    found = None;
+    parsed = p ∙ ap (λ (l : Span). (None, C l)) (sym e);
     is = sym (ap (tail_r n.end) e ∙ tail_empty n);
   }
 
@@ -155,7 +157,7 @@ module _ (s : List ℕ) where
     where
       go : Seen s n → Tail n
       go (over k e) = stays n (ap (λ (x : Bool). cond x (cond (line_feed s n.end (next_span s n).start) n (next_span s n)) n) (ne_eqb (kind_at s n) 1 (λ z. omega arith)))
-          (ap (λ (ts : List Token). suffix_comment (behind n ts)) e ∙ ap (λ (ts : List Token). (none, behind n ts)) (sym e))
+          (ap (λ (ts : List Token). suffix_comment (behind n ts)) e ∙ ap (λ (ts : List Token). (None, behind n ts)) (sym e))
       go (comes t e p k f g) = by (is_kind t.kind Comment) refl t.new_line refl
         where
           at_list : suffix_comment (C n) ≡ suffix_comment (behind n (t ∷ tokens_at s (next_span s n).end false))
@@ -163,15 +165,15 @@ module _ (s : List ℕ) where
 
           by : (x : Bool) → is_kind t.kind Comment ≡ x → (y : Bool) → t.new_line ≡ y → Tail n
           by false i y j = stays n (ap (λ (x : Bool). cond x (cond (line_feed s n.end (next_span s n).start) n (next_span s n)) n) (sym (ap (λ (x : ℕ). eqb x 1) k) ∙ i))
-              (at_list ∙ rw (i, suffix_comment) (ap (λ (ts : List Token). (none, behind n ts)) (sym e)))
+              (at_list ∙ rw (i, suffix_comment) (ap (λ (ts : List Token). (None, behind n ts)) (sym e)))
           by true i true j = stays n
               (ap (λ (x : Bool). cond x (cond (line_feed s n.end (next_span s n).start) n (next_span s n)) n) (sym (ap (λ (x : ℕ). eqb x 1) k) ∙ i) ∙ ap (λ (x : Bool). cond x n (next_span s n)) (sym f ∙ j))
-              (at_list ∙ rw (i, j, suffix_comment) (ap (λ (ts : List Token). (none, behind n ts)) (sym e)))
+              (at_list ∙ rw (i, j, suffix_comment) (ap (λ (ts : List Token). (None, behind n ts)) (sym e)))
           by true i false j =
               let q : suffix_end s n ≡ next_span s n = ap (λ (x : Bool). cond x (cond (line_feed s n.end (next_span s n).start) n (next_span s n)) n) (sym (ap (λ (x : ℕ). eqb x 1) k) ∙ i) ∙ ap (λ (x : Bool). cond x n (next_span s n)) (sym f ∙ j) in
               record {
-                found = some (slice_of t);
-                parsed = at_list ∙ rw (i, j, suffix_comment) (ap (λ (sp : Span). (some (slice_of t), behind sp (tokens_at s (next_span s n).end false))) p ∙ ap (λ (l : Span). (some (slice_of t), C l)) (sym q));
+                found = Some (slice_of t);
+                parsed = at_list ∙ rw (i, j, suffix_comment) (ap (λ (sp : Span). (Some (slice_of t), behind sp (tokens_at s (next_span s n).end false))) p ∙ ap (λ (l : Span). (Some (slice_of t), C l)) (sym q));
                 is = ap (λ (sp : Span). leaf 8 sp ∷ []) p ∙ sym (ap (tail_r n.end) q ∙ tail_one n (next_span s n) (omega (arith, g.behind, g.long)));
               }
 

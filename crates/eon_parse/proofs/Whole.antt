@@ -1,8 +1,8 @@
+use Rattle.std.specs.Prelude.{None}
 -- A whole text read by places is the text read by the definition. Assumes nothing.
 use mathlib.Core.Path.{◌≡◌, refl, sym, ap, ◌∙◌}
 use mathlib.Core.Bool.{Bool, true, false, cond}
 use mathlib.Core.List.{List, [], ◌∷◌, ◌++◌, append-nil}
-use mathlib.Core.Option.{none}
 use Prim.Native.Nat.{ℕ, zero, suc, ◌<◌}
 use native.Mathlib.Omega.{arith}
 use lib.ListN.{length}
@@ -11,7 +11,7 @@ use borrow.Author.Tests.{ne_eqb}
 use Rattle.eon_spec.specs.Utf8.{is_utf8}
 use Rattle.eon_spec.specs.Token.{Token, kind_number, tokens}
 use Rattle.eon_spec.specs.Tree.{Span, Slice, TokenTree, TokenTrees, KeyValues, tree, list_of, map_of, no_trees, ◌∷ᵗ◌}
-use Rattle.eon_spec.specs.declared.Refusal.{Refusal}
+use Rattle.eon_spec.specs.Refused.{Refusal}
 use Rattle.eon_spec.specs.Parse.{refusal, Cursor, behind, Read, read, refused, bind as bindP, with_prefix, after_comma, TokenList, TokenMap, Reader, list_contents, list_inside, map_inside, inside_at, none_is_left, top_list, top_of, parse_top, parse}
 use Rattle.eon_laws.proofs.Parse.{inside_at_good}
 use Rattle.eon_spec.specs.Records.{comments, tree_records, trees_records, pairs_records}
@@ -25,11 +25,11 @@ use Rattle.eon_parse.proofs.Left.{below_far}
 use Rattle.eon_parse.proofs.Same.{C, Same, fine, fails, Ran, comments_same, Settled, settle_same, Shown, Listed, Mapped, stops_is, many_end, list_is, list_on, list_off, list_more, list_from, strict, fewer, fewer_comma, list_inside_lem, map_inside_lem, below_same, end_same}
 
 -- a container at the top
-map_top : (len : ℕ) (kvs : KeyValues) (cl : List Slice) (ts : Records) → pairs_records kvs ++ comments 9 cl ≡ ts → tree_records (tree (span 0 len) [] (map_of kvs cl) none) ≡ header 5 0 0 len ts ∷ ts
+map_top : (len : ℕ) (kvs : KeyValues) (cl : List Slice) (ts : Records) → pairs_records kvs ++ comments 9 cl ≡ ts → tree_records (tree (span 0 len) [] (map_of kvs cl) None) ≡ header 5 0 0 len ts ∷ ts
 unfolding tree_records
 map_top len kvs cl ts e = append-nil _ ∙ ap (λ (x : Records). header 5 0 0 len x ∷ x) e
 
-list_top_lem : (len : ℕ) (vs : TokenTrees) (cl : List Slice) (ts : Records) → trees_records vs ++ comments 9 cl ≡ ts → tree_records (tree (span 0 len) [] (list_of vs cl) none) ≡ header 4 0 0 len ts ∷ ts
+list_top_lem : (len : ℕ) (vs : TokenTrees) (cl : List Slice) (ts : Records) → trees_records vs ++ comments 9 cl ≡ ts → tree_records (tree (span 0 len) [] (list_of vs cl) None) ≡ header 4 0 0 len ts ∷ ts
 unfolding tree_records
 list_top_lem len vs cl ts e = append-nil _ ∙ ap (λ (x : Records). header 4 0 0 len x ∷ x) e
 
@@ -132,7 +132,7 @@ module _ (s : List ℕ) (u8 : is_utf8 s ≡ true) where
         let t = two x (C s n) p in
         ap (λ (y : Read TokenList). whole_of (top_of (length s) (refused ra la) y)) p
         ∙ ap (λ (vs : TokenTrees). whole_of (none_is_left (C s n) (top_list (length s) vs x.closing))) t.3
-        ∙ none_left n sp (tree (span 0 (length s)) [] (list_of (t.0 ∷ᵗ (t.1 ∷ᵗ t.2)) x.closing) none) (asSeveral (header 4 0 0 (length s) ts ∷ ts))
+        ∙ none_left n sp (tree (span 0 (length s)) [] (list_of (t.0 ∷ᵗ (t.1 ∷ᵗ t.2)) x.closing) None) (asSeveral (header 4 0 0 (length s) ts ∷ ts))
         (ap gives (list_top_lem (length s) (t.0 ∷ᵗ (t.1 ∷ᵗ t.2)) x.closing ts (ap (λ (vs : TokenTrees). trees_records vs ++ comments 9 x.closing) (sym t.3) ∙ k)))
         ∙ sym (ap (λ (y : Out Records). shape_whole (several_by s ra la y)) h)
 
@@ -202,7 +202,7 @@ module _ (s : List ℕ) (u8 : is_utf8 s ≡ true) where
       go : Same s (Mapped s []) (map_inside value (C s start)) (inside s (two s by) start) → whole_of (top_of (length s) (map_inside value (C s start)) (list_inside value (C s start))) ≡ shape_whole (map_by s (inside s (two s by) start))
       go (fine m ts n p h sp k) =
           ap (λ (x : Read TokenMap). whole_of (top_of (length s) x (list_inside value (C s start)))) p
-          ∙ none_left n sp (tree (span 0 (length s)) [] (map_of m.key_values m.closing) none) (asMap (header 5 0 0 (length s) ts ∷ ts)) (ap gives (map_top (length s) m.key_values m.closing ts k))
+          ∙ none_left n sp (tree (span 0 (length s)) [] (map_of m.key_values m.closing) None) (asMap (header 5 0 0 (length s) ts ∷ ts)) (ap gives (map_top (length s) m.key_values m.closing ts k))
           ∙ sym (ap (λ (o : Out Records). shape_whole (map_by s o)) h)
       go (fails ra la p h) =
           ap (λ (x : Read TokenMap). whole_of (top_of (length s) x (list_inside value (C s start)))) p

@@ -1,7 +1,7 @@
 -- A whole text: the map attempt, the list attempt, a trailing token, whose refusal wins, one value or several.
 use Rattle.std.specs.Prelude.{cond, ℕ, List, ◌∷◌, length, eqb}
 use Rattle.eon_spec.specs.Tree.{Span}
-use Rattle.eon_spec.specs.declared.Refusal.{Refusal}
+use Rattle.eon_spec.specs.Refused.{Refusal}
 use Rattle.eon_spec.specs.Parse.{refusal, further, Parsed, parsed, refused_by}
 use Rattle.eon_spec.specs.Records.{tree_records}
 use Rattle.eon_token.specs.Place.{kind_at, next_span, span}

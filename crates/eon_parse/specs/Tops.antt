@@ -1,6 +1,6 @@
 -- What the calls on a whole text answer.
 use Rattle.std.specs.Prelude.{ℕ, List, [], ◌∷◌, Bool, false, cond, length, ltb, eqb}
-use Rattle.eon_spec.specs.declared.Refusal.{Refusal}
+use Rattle.eon_spec.specs.Refused.{Refusal}
 use Rattle.eon_spec.specs.Parse.{refusal}
 use Rattle.eon_spec.specs.Records.{words}
 use Rattle.eon_token.specs.Place.{span, cursor_at}

@@ -1,7 +1,7 @@
 -- What reading gives, by places: the records of what is read, and the span of the last token consumed.
 use Rattle.std.specs.Prelude.{ℕ, zero, suc, List, [], ◌∷◌, ◌++◌, Bool, true, not, cond, length, ltb, eqb}
 use Rattle.eon_spec.specs.Tree.{Span}
-use Rattle.eon_spec.specs.declared.Refusal.{Refusal}
+use Rattle.eon_spec.specs.Refused.{Refusal}
 use Rattle.eon_spec.specs.Parse.{refusal}
 use Rattle.eon_spec.specs.Records.{Record, record_at, leaf}
 use Rattle.eon_token.specs.Place.{kind_at, next_span, line_feed, span}

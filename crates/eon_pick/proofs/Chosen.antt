@@ -1,8 +1,8 @@
+use Rattle.std.specs.Prelude.{Option, None, Some}
 -- The nearest byte as the code finds it: by cases on a record's span, record by record.
 use mathlib.Core.Path.{◌≡◌, refl, sym, ap, ap₂, ◌∙◌}
 use mathlib.Core.Bool.{Bool, true, false, ◌&&◌, ◌||◌, cond}
 use mathlib.Core.List.{List, [], ◌∷◌, ◌++◌}
-use mathlib.Core.Option.{Option, none, some}
 use Prim.Native.Nat.{ℕ, pred, ◌+◌, ◌-◌, ◌≤◌, ◌<◌, min, max}
 use native.Mathlib.Nat.{zero-add}
 use native.Mathlib.Omega.{arith}
@@ -41,13 +41,13 @@ module _ (o b a d e : ℕ) (p : d ≡ distance o b) (q : e ≡ distance o a) whe
 -- ---- a record's byte
 
 module _ (o : ℕ) (r : Record) (a e : ℕ) (p : a ≡ r.start) (q : e ≡ r.end) where
-  pub in_none : e ≤ a → none ≡ nearest_in o r
-  in_none h = sym (ap (λ (x : Bool). cond x (some (max r.start (min o (pred r.end)))) none) (le-ltb r.start r.end (least_by e a r.end r.start q p h)))
+  pub in_none : e ≤ a → None ≡ nearest_in o r
+  in_none h = sym (ap (λ (x : Bool). cond x (Some (max r.start (min o (pred r.end)))) None) (le-ltb r.start r.end (least_by e a r.end r.start q p h)))
 
-  pub in_some : (b : ℕ) → a < e → b ≡ max a (min o (pred e)) → some b ≡ nearest_in o r
+  pub in_some : (b : ℕ) → a < e → b ≡ max a (min o (pred e)) → Some b ≡ nearest_in o r
   in_some b h f =
-      ap some (f ∙ ap₂ (λ (x y : ℕ). max x (min o (pred y))) p q)
-      ∙ sym (ap (λ (x : Bool). cond x (some (max r.start (min o (pred r.end)))) none) (lt-ltb r.start r.end (less_by a e r.start r.end p q h)))
+      ap Some (f ∙ ap₂ (λ (x y : ℕ). max x (min o (pred y))) p q)
+      ∙ sym (ap (λ (x : Bool). cond x (Some (max r.start (min o (pred r.end)))) None) (lt-ltb r.start r.end (less_by a e r.start r.end p q h)))
 
 -- the three places of the byte
 pub before_it : (o a e : ℕ) → a < e → o < a → a ≡ max a (min o (pred e))
@@ -61,19 +61,19 @@ behind_it o a e g h = omega arith
 
 -- ---- of two bytes, by the winner
 
-pub takes_later : (o a b : ℕ) → wins o b a ≡ true → some b ≡ nearer o (some a) (some b)
-takes_later o a b e = sym (ap (λ (x : Bool). cond x (some b) (some a)) e)
+pub takes_later : (o a b : ℕ) → wins o b a ≡ true → Some b ≡ nearer o (Some a) (Some b)
+takes_later o a b e = sym (ap (λ (x : Bool). cond x (Some b) (Some a)) e)
 
-pub keeps_first : (o a b : ℕ) → wins o b a ≡ false → some a ≡ nearer o (some a) (some b)
-keeps_first o a b e = sym (ap (λ (x : Bool). cond x (some b) (some a)) e)
+pub keeps_first : (o a b : ℕ) → wins o b a ≡ false → Some a ≡ nearer o (Some a) (Some b)
+keeps_first o a b e = sym (ap (λ (x : Bool). cond x (Some b) (Some a)) e)
 
-pub nearer_alone : (o a : ℕ) → some a ≡ nearer o (some a) none
+pub nearer_alone : (o a : ℕ) → Some a ≡ nearer o (Some a) None
 nearer_alone o a = refl
 
 -- ---- record by record
 
 module _ (o : ℕ) (tb : List ℕ) where
-  pub none_seen : none ≡ nearest o (records_of tb 0 0)
+  pub none_seen : None ≡ nearest o (records_of tb 0 0)
   unfolding records_of
   none_seen = refl
 
@@ -88,11 +88,11 @@ module _ (o : ℕ) (tb : List ℕ) where
 -- ---- the byte, then the record
 
 module _ (o : ℕ) (rs : List Record) where
-  pub no_byte : none ≡ nearest o rs → refused_with (nowhere 27) ≡ or_refused 27 (picked o rs)
+  pub no_byte : None ≡ nearest o rs → refused_with (nowhere 27) ≡ or_refused 27 (picked o rs)
   unfolding picked
   no_byte e = ap (λ (x : Option ℕ). or_refused 27 (picked_by x rs)) e
 
-  pub byte_picks : (b : ℕ) (x : Outcome ℕ) → some b ≡ nearest o rs → x ≡ or_refused 27 (highest b 0 rs) → x ≡ or_refused 27 (picked o rs)
+  pub byte_picks : (b : ℕ) (x : Outcome ℕ) → Some b ≡ nearest o rs → x ≡ or_refused 27 (highest b 0 rs) → x ≡ or_refused 27 (picked o rs)
   unfolding picked
   byte_picks b x e f = f ∙ ap (λ (y : Option ℕ). or_refused 27 (picked_by y rs)) e
 

@@ -10,7 +10,7 @@ use lib.ListN.{length, drop, set, length-set}
 use lib.Seq.{sets, take_all, set_out}
 use borrow.Author.Tests.{le-leb, lt-leb}
 use Rattle.eon_spec.specs.declared.Hit.{Hit}
-use Rattle.eon_spec.specs.declared.Refusal.{Refusal}
+use Rattle.eon_spec.specs.Refused.{Refusal}
 use Rattle.eon_spec.specs.Tree.{TokenTree}
 use Rattle.eon_spec.specs.Records.{Record, tree_records}
 use Rattle.eon_spec.specs.Calls.{Outcome, done, refused_with, then, nowhere, after, written, fill, read_finished}

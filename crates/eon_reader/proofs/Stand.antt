@@ -1,8 +1,8 @@
+use Rattle.std.specs.Prelude.{Option, Some}
 -- A reader's places: it may stand where it starts and behind each token; and counting the tokens. Assumes nothing.
 use mathlib.Core.Path.{◌≡◌, refl, sym, ap, ap₂, subst, ◌∙◌}
 use mathlib.Core.Bool.{Bool, true, false}
 use mathlib.Core.List.{List, [], ◌∷◌}
-use mathlib.Core.Option.{Option, some}
 use Prim.Native.Nat.{ℕ, ◌+◌, ◌≤◌, ◌<◌}
 use native.Mathlib.Nat.{zero-add}
 use native.Mathlib.Omega.{arith}
@@ -77,7 +77,7 @@ from_end n = ap done (omega arith)
 module _ (n : ℕ) (t : Token) (ts : List Token) where
   from_stray : kind_number t.kind ≡ 0 → refused_with (refusal 3 (span_of t)) ≡ counted_from n (t ∷ ts)
   unfolding first_invalid
-  from_stray k = let f : first_invalid (t ∷ ts) ≡ some t = rw (eq-eqb (kind_number t.kind) 0 k, first_invalid) in ap (λ (o : Option Token). stray_or o (n + length (t ∷ ts))) (sym f)
+  from_stray k = let f : first_invalid (t ∷ ts) ≡ Some t = rw (eq-eqb (kind_number t.kind) 0 k, first_invalid) in ap (λ (o : Option Token). stray_or o (n + length (t ∷ ts))) (sym f)
 
   from_more : (kind_number t.kind ≡ 0 → ⊥) → counted_from (n + 1) ts ≡ counted_from n (t ∷ ts)
   unfolding first_invalid

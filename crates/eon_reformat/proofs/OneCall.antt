@@ -9,7 +9,7 @@ use native.Mathlib.Numerals.{add-one}
 use lib.ListN.{length, take, drop, get_or, set, length-take}
 use lib.Seq.{paste-suc, length-take-le}
 use lib.Dec.{leb, le→leb}
-use Rattle.eon_spec.specs.declared.Refusal.{Refusal}
+use Rattle.eon_spec.specs.Refused.{Refusal}
 use Rattle.eon_spec.specs.declared.Answer.{Answer}
 use Rattle.eon_spec.specs.declared.Answer.TheVariants.{Done, Refused}
 use Rattle.eon_spec.specs.declared.FormatOptions.{FormatOptions}

@@ -12,7 +12,8 @@ use Rattle.eon_spec.specs.declared.Compared.TheVariants as compared
 use Rattle.eon_spec.specs.declared.Unquoted.TheVariants as unquoted
 use Rattle.eon_spec.specs.Parse.{refusal}
 use Rattle.eon_spec.specs.Layout.{setting, settings_of, defaults, default_options}
-use Rattle.eon_spec.specs.Calls.{done, refused_with, nowhere, place, after, after_both, Part, part_of, read_call, format_call, reformat_call, fill_both, compare_call, checked_settings, unquote_call, show_call, shown_place, compared_outcome, unquoted_outcome}
+use Rattle.eon_spec.specs.declared.Part.{Part}
+use Rattle.eon_spec.specs.Calls.{done, refused_with, nowhere, place, after, after_both, part_of, read_call, format_call, reformat_call, fill_both, compare_call, checked_settings, unquote_call, show_call, shown_place, outcome_of}
 use Rattle.eon_rows.proofs.Computing.{writes, bytes, compares, shows}
 
 -- the words of `1 2` and of `1`
@@ -330,11 +331,11 @@ unfolding compares writes reformat_call fill_both checked_settings bytes
 reformat_refused = refl
 
 -- "Where an answer is an enum, a definition gives this paper's number and values for each of its cases": comparison's
-equal_or_not : map compared_outcome (compared.Equal true ∷ compared.Equal false ∷ compared.Refused (nowhere 15) ∷ []) ≡ done true ∷ done false ∷ refused_with (nowhere 15) ∷ []
+equal_or_not : map outcome_of (compared.Equal true ∷ compared.Equal false ∷ compared.Refused (nowhere 15) ∷ []) ≡ done true ∷ done false ∷ refused_with (nowhere 15) ∷ []
 equal_or_not = refl
 
 -- "Filling answers which slice, start and length"
-which_start_length : map unquoted_outcome (unquoted.Part Quoted 1 2 ∷ unquoted.Refused (nowhere 14) ∷ []) ≡ done (part_of Quoted 1 2) ∷ refused_with (nowhere 14) ∷ []
+which_start_length : map outcome_of (unquoted.Part Quoted 1 2 ∷ unquoted.Refused (nowhere 14) ∷ []) ≡ done (part_of Quoted 1 2) ∷ refused_with (nowhere 14) ∷ []
 which_start_length = refl
 
 -- "or is literal": three single quotes are, with a backslash too

@@ -5,7 +5,7 @@ use Prim.Native.Nat.{ℕ, ◌≤◌}
 use native.Mathlib.Omega.{arith}
 use lib.ListN.{length, take}
 use lib.Seq.{take_all}
-use Rattle.eon_spec.specs.declared.Refusal.{Refusal}
+use Rattle.eon_spec.specs.Refused.{Refusal}
 use Rattle.eon_spec.specs.declared.Answer.{Answer}
 use Rattle.eon_spec.specs.declared.Answer.TheVariants.{Done, Refused}
 use Rattle.eon_spec.specs.declared.FormatOptions.{FormatOptions}

@@ -11,9 +11,10 @@ use lib.Seq.{sets-eq}
 use Rattle.eon_spec.specs.Utf8.{encode, well_formed_len}
 use Rattle.eon_spec.specs.Unquote.{value, fault, unquote, unquote_chars}
 use Rattle.eon_spec.specs.Unquote as unquoting
-use Rattle.eon_spec.specs.declared.Refusal.{Refusal}
+use Rattle.eon_spec.specs.Refused.{Refusal}
 use Rattle.eon_spec.specs.Parse.{refusal}
-use Rattle.eon_spec.specs.Calls.{Outcome, done, refused_with, After, after, Part, part_of, place, nowhere, checked, fill, written, is_part, opening, handed_back, unescaped_outcome, unquote_call}
+use Rattle.eon_spec.specs.declared.Part.{Part}
+use Rattle.eon_spec.specs.Calls.{Outcome, done, refused_with, After, after, part_of, place, nowhere, checked, fill, written, is_part, opening, handed_back, unescaped_outcome, unquote_call}
 use Rattle.eon_spec.specs.declared.Which.TheVariants.{Quoted, Scratch}
 use Rattle.eon_laws.proofs.Checked.{checked_long, checked_bad, checked_good, good_text}
 use Rattle.eon_unescape.specs.Views.{kept, Reads}

@@ -4,7 +4,8 @@ use Rattle.eon_spec.specs.Base.{eq_list, codes}
 use Rattle.eon_spec.specs.Unquote.{value, fault, unescape, plain, starts_with, ends_with, one_line_only, drop_line_feed, value_bytes}
 use Rattle.eon_spec.specs.Unquote as unquoting
 use Rattle.eon_spec.specs.declared.Which.TheVariants.{Scratch}
-use Rattle.eon_spec.specs.Calls.{Part, part_of, Outcome, done, After, then, fill, handed_back, unescaped_outcome}
+use Rattle.eon_spec.specs.declared.Part.{Part}
+use Rattle.eon_spec.specs.Calls.{part_of, Outcome, done, After, then, fill, handed_back, unescaped_outcome}
 use Rattle.eon_escape.specs.Views.{reads_by}
 use Rattle.eon_unescape.specs.Views.{kept, between, Formed}
 use Rattle.eon_escape.specs.declared.Mode.{Mode}

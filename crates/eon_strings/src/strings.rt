@@ -2,7 +2,7 @@
 ghost use Rattle.std.specs.Prelude.{◌≡◌, length, drop, leb, ◌+◌, ◌≤◌, ◌<◌};
 ghost use Rattle.eon_spec.specs.Base.{elem};
 ghost use Rattle.eon_spec.specs.Unquote.{starts_with, value, one_line_only, drop_line_feed, unquote_chars};
-ghost use Rattle.eon_spec.specs.Calls.{after, is_part, opening, part_of, unquoted_outcome, unquote_call, show_call, shown_place};
+ghost use Rattle.eon_spec.specs.Calls.{after, is_part, opening, part_of, outcome_of, unquote_call, show_call, shown_place};
 ghost use Rattle.eon_escape.specs.Views.{reads_by, GoodMode};
 ghost use Rattle.eon_unescape.specs.Views.{kept, between, Formed};
 ghost use Rattle.eon_strings.specs.Views.{Inside, StartIs, ClosingIs, marked, ModeIs, ContentsIs, placed_call, scratch_call};
@@ -260,7 +260,7 @@ fn in_quotes(text: &[u8]) -> Contents
 // A value that is no part of the quoted slice is measured, and then written.
 fn unescaped(text: &[u8], mode: Mode, scratch: &mut [u8]) -> Unquoted
     requires { (length text.now ≤ 65535) × Formed text.now × GoodMode mode }
-    ensures { after (unquoted_outcome result) scratch.new ≡ scratch_call scratch.old (reads_by mode (kept text.now 0)) }
+    ensures { after (outcome_of result) scratch.new ≡ scratch_call scratch.old (reads_by mode (kept text.now 0)) }
 {
     let mut none = [0u8; 1];
     let measured = eon_unescape::unescape(text, mode, &mut none);
@@ -277,7 +277,7 @@ fn unescaped(text: &[u8], mode: Mode, scratch: &mut [u8]) -> Unquoted
 // A part of the quoted slice is as long as what stands between the quotes: it holds nothing to unescape.
 fn placed(quoted: &[u8], from: usize, to: usize, mode: Mode, scratch: &mut [u8]) -> Unquoted
     requires { Inside quoted.now from to × ModeIs quoted.now mode × (length quoted.now ≤ 65535) }
-    ensures { after (unquoted_outcome result) scratch.new ≡ placed_call quoted.now scratch.old (reads_by mode (kept (between quoted.now from to) 0)) }
+    ensures { after (outcome_of result) scratch.new ≡ placed_call quoted.now scratch.old (reads_by mode (kept (between quoted.now from to) 0)) }
 {
     if is_part(quoted) {
         return Unquoted::Part(Which::Quoted, opening_len(quoted), to - from);
@@ -288,7 +288,7 @@ fn placed(quoted: &[u8], from: usize, to: usize, mode: Mode, scratch: &mut [u8])
 // The value of a quoted text, without its quotes and escapes.
 #[tactic(auto, using(crate::proofs::Whole::long_refused))]
 pub fn unescape_and_unquote(quoted: &[u8], scratch: &mut [u8]) -> Unquoted
-    ensures { after (unquoted_outcome result) scratch.new ≡ unquote_call quoted.now scratch.old }
+    ensures { after (outcome_of result) scratch.new ≡ unquote_call quoted.now scratch.old }
 {
     if 65535 < quoted.len() {
         return Unquoted::Refused(Refusal::new(1, 65535));

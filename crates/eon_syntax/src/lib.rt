@@ -4,7 +4,7 @@
 
 ghost use Rattle.std.specs.Prelude.{◌≡◌};
 ghost use Rattle.eon_spec.specs.Unquote.{is_valid_identifier};
-ghost use Rattle.eon_spec.specs.Calls.{after, outcome_of, read_call, format_call, after_both, reformat_call, compared_outcome, compare_call, unquoted_outcome, unquote_call, part_of, show_call, shown_place};
+ghost use Rattle.eon_spec.specs.Calls.{after, outcome_of, read_call, format_call, after_both, reformat_call, compare_call, unquote_call, part_of, show_call, shown_place};
 ghost use Rattle.eon_spec.specs.Pick.{record_at_call, records_in_call};
 ghost use Rattle.eon_spec.specs.Lookup.{lookup_call, IsLookup};
 
@@ -41,7 +41,7 @@ pub fn reformat(text: &[u8], table: &mut [u32], options: FormatOptions, out: &mu
 
 // Are the trees of two texts with their finished tables equal, spans aside?
 pub fn compare(text1: &[u8], table1: &[u32], text2: &[u8], table2: &[u32]) -> Compared
-    ensures { compared_outcome result ≡ compare_call text1.now table1.now text2.now table2.now }
+    ensures { outcome_of result ≡ compare_call text1.now table1.now text2.now table2.now }
 {
     eon_compare::compare(text1, table1, text2, table2)
 }
@@ -77,7 +77,7 @@ pub fn is_valid_identifier(text: &[u8]) -> bool
 
 // The value of a quoted string: where it stands, in the quoted slice itself or written to the scratch.
 pub fn unescape_and_unquote(quoted: &[u8], scratch: &mut [u8]) -> Unquoted
-    ensures { after (unquoted_outcome result) scratch.new ≡ unquote_call quoted.now scratch.old }
+    ensures { after (outcome_of result) scratch.new ≡ unquote_call quoted.now scratch.old }
 {
     eon_strings::unescape_and_unquote(quoted, scratch)
 }

@@ -1,7 +1,7 @@
+use Rattle.std.specs.Prelude.{Option, None, Some}
 -- The steps of a walk over a table that holds a tree.
 use mathlib.Core.Path.{◌≡◌, refl, sym, ap, ◌∙◌, subst}
 use mathlib.Core.Bool.{Bool, true, false, ◌&&◌, not}
-use mathlib.Core.Option.{Option, none, some}
 use mathlib.Core.List.{List, [], ◌∷◌}
 use Prim.Native.Nat.{ℕ, ◌+◌, ◌≤◌, ◌<◌}
 use native.Mathlib.Omega.{arith}
@@ -150,12 +150,12 @@ module _ (s tb : List ℕ) where
         omega arith
 
     suffix_one : (j : ℕ) (x : Option Slice) → SuffixAt s tb end j x → has_suffix tb end j ≡ true → suffix_size x ≡ 1
-    suffix_one j none h e = clash e h
-    suffix_one j (some c) h e = refl
+    suffix_one j None h e = clash e h
+    suffix_one j (Some c) h e = refl
 
     suffix_zero : (j : ℕ) (x : Option Slice) → SuffixAt s tb end j x → has_suffix tb end j ≡ false → suffix_size x ≡ 0
-    suffix_zero j none h e = refl
-    suffix_zero j (some c) h e = clash h.0 e
+    suffix_zero j None h e = refl
+    suffix_zero j (Some c) h e = clash h.0 e
 
     pub next_suffix : (t : TokenTree) → TreeAt s tb end i t → AfterPrefix tb i r → has_suffix tb end (r + word tb r 4) ≡ true → r + word tb r 4 + 1 ≡ i + tree_size t
     next_suffix t h a e =

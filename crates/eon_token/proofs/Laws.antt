@@ -1,8 +1,8 @@
+use Rattle.std.specs.Prelude.{Option, None, Some}
 -- For who calls the token call again and again: where a token stands, that its end is a boundary, and the token list from there on.
 use mathlib.Core.Path.{◌≡◌, refl, sym, ap, ap₂, subst, ◌∙◌}
 use mathlib.Core.Bool.{Bool, true, false, ◌||◌}
 use mathlib.Core.List.{List, [], ◌∷◌}
-use mathlib.Core.Option.{Option, none, some}
 use Prim.Native.Nat.{ℕ, suc, ◌+◌, ◌-◌, ◌≤◌, ◌<◌, pred}
 use native.Mathlib.Nat.{add_assoc}
 use native.Mathlib.Omega.{arith}
@@ -10,7 +10,9 @@ use lib.ListN.{length, take, drop}
 use lib.Seq.{drop-drop}
 use Rattle.eon_spec.specs.Base.{elem}
 use Rattle.eon_spec.specs.Utf8.{Character, chars, joined, is_utf8, Boundary}
-use Rattle.eon_spec.specs.Token.{TokenKind, Invalid, Comment, OpenList, CloseList, OpenBrace, CloseBrace, OpenParen, CloseParen, Colon, Comma, Identifier, Number, DoubleQuotedString, SingleQuotedString, MultilineBasicString, MultilineLiteralString, kind_number, Token, tokens, tokens_from, token_from, rules, longest_rule, placed}
+use Rattle.eon_spec.specs.declared.token_kind.TokenKind.{TokenKind}
+use Rattle.eon_spec.specs.declared.token_kind.TokenKind.TheVariants.{Invalid, Comment, OpenList, CloseList, OpenBrace, CloseBrace, OpenParen, CloseParen, Colon, Comma, Identifier, Number, DoubleQuotedString, SingleQuotedString, MultilineBasicString, MultilineLiteralString}
+use Rattle.eon_spec.specs.Token.{kind_number, Token, tokens, tokens_from, token_from, rules, longest_rule, placed}
 use Rattle.eon_laws.proofs.Chars.{AllChars}
 use Rattle.eon_token.specs.Placed.{placed_token, placed_at, tokens_at, kind_of, token_of}
 use Rattle.eon_token.specs.declared.token_kind.PlacedToken.{PlacedToken}
@@ -65,8 +67,8 @@ unfolding placed_at
 kind_le s at = go (token_from s at)
   where
     go : (t : Option Token) → (placed_token s t).kind ≤ 16
-    go none = omega arith
-    go (some t) = omega (arith, kind_small t.kind)
+    go None = omega arith
+    go (Some t) = omega (arith, kind_small t.kind)
 
 -- the tokens of the text are those from its start on
 pub tokens_start : (s : List ℕ) → tokens s ≡ tokens_at s 0 false

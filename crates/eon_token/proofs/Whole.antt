@@ -1,8 +1,8 @@
+use Rattle.std.specs.Prelude.{Option, None, Some}
 -- The token of the bytes is the definition's first token of the characters.
 use mathlib.Core.Path.{◌≡◌, refl, sym, ap, ap₂, subst, ◌∙◌}
 use mathlib.Core.Bool.{Bool, true, false, not, ◌&&◌, ◌||◌, or_assoc, or-false, cond}
 use mathlib.Core.List.{List, [], ◌∷◌, ◌++◌}
-use mathlib.Core.Option.{Option, none, some}
 use Prim.Native.Nat.{ℕ, zero, suc, ◌+◌, ◌≤◌, ◌<◌, pred}
 use native.Mathlib.Nat.{add-zero}
 use native.Mathlib.Decide.{dec_lt}
@@ -13,7 +13,9 @@ use lib.ListN.{length, take, drop, length-append}
 use lib.Seq.{drop-drop}
 use Rattle.eon_spec.specs.Base.{elem}
 use Rattle.eon_spec.specs.Utf8.{Character, code_point, chars, joined, is_utf8, Boundary}
-use Rattle.eon_spec.specs.Token.{TokenKind, Invalid, kind_number, is_kind, Token, rules, longest_rule, is_space, placed, tokens_from, token_from}
+use Rattle.eon_spec.specs.declared.token_kind.TokenKind.{TokenKind}
+use Rattle.eon_spec.specs.declared.token_kind.TokenKind.TheVariants.{Invalid}
+use Rattle.eon_spec.specs.Token.{kind_number, is_kind, Token, rules, longest_rule, is_space, placed, tokens_from, token_from}
 use Rattle.eon_laws.proofs.Token.{tokens_step}
 use Rattle.eon_laws.proofs.Chars.{AllChars}
 use Rattle.eon_laws.proofs.Cut.{found_some}
@@ -171,8 +173,8 @@ bytes_token start c cs a =
 
 -- the first of a list of tokens, as the call answers it
 abbrev head : List Token → Option Token
-head [] = none
-head (t ∷ ts) = some t
+head [] = None
+head (t ∷ ts) = Some t
 
 first_token_lem : (s : List ℕ) (at : ℕ) (ts : List Token) → tokens_at s at false ≡ ts → placed_at s at ≡ placed_token s (head ts)
 unfolding placed_at token_from

@@ -1,14 +1,15 @@
 -- The token call's answer, from the definition of tokens, and what it says of the token list.
-use Rattle.std.specs.Prelude.{Bool, ◌||◌, List, [], ◌∷◌, ℕ, ◌-◌, length, take, drop, get_or}
-use Rattle.std.proofs.Math.Option.{Option, none, some}
+use Rattle.std.specs.Prelude.{Bool, ◌||◌, List, [], ◌∷◌, ℕ, ◌-◌, length, take, drop, get_or, Option, None, Some}
 use Rattle.eon_spec.specs.Base.{elem}
 use Rattle.eon_spec.specs.Utf8.{chars}
-use Rattle.eon_spec.specs.Token.{TokenKind, Invalid, Comment, OpenList, CloseList, OpenBrace, CloseBrace, OpenParen, CloseParen, Colon, Comma, Identifier, Number, DoubleQuotedString, SingleQuotedString, MultilineBasicString, MultilineLiteralString, Token, tokens_from, token_from, kind_number}
+use Rattle.eon_spec.specs.declared.token_kind.TokenKind.{TokenKind}
+use Rattle.eon_spec.specs.declared.token_kind.TokenKind.TheVariants.{Invalid, Comment, OpenList, CloseList, OpenBrace, CloseBrace, OpenParen, CloseParen, Colon, Comma, Identifier, Number, DoubleQuotedString, SingleQuotedString, MultilineBasicString, MultilineLiteralString}
+use Rattle.eon_spec.specs.Token.{Token, tokens_from, token_from, kind_number}
 use Rattle.eon_token.specs.declared.token_kind.PlacedToken.{PlacedToken}
 
 abbrev pub placed_token : List ℕ → Option Token → PlacedToken
-placed_token s none = record { kind = 16; start = length s; end = length s }
-placed_token s (some t) = record { kind = kind_number t.kind; start = t.start; end = t.end }
+placed_token s None = record { kind = 16; start = length s; end = length s }
+placed_token s (Some t) = record { kind = kind_number t.kind; start = t.start; end = t.end }
 
 -- the first token from a byte on
 unfoldable pub placed_at : List ℕ → ℕ → PlacedToken

@@ -1,6 +1,6 @@
+use Rattle.std.specs.Prelude.{None, Some}
 -- The longest well-formed beginning, character by character.
 use mathlib.Core.Path.{◌≡◌, refl, sym, ◌∙◌}
-use mathlib.Core.Option.{none, some}
 use mathlib.Core.List.{List, [], ◌∷◌}
 use Prim.Native.Nat.{ℕ, zero, suc, ◌+◌, ◌-◌, ◌*◌, ◌≤◌, ◌<◌}
 use native.Mathlib.Omega.{arith}
@@ -57,14 +57,14 @@ formed_on s i zero e = let z : i + 0 ≡ i = omega arith in rw z (omega arith)
 formed_on s i (suc k) e = goes_on_lem k (drop i s) (sym e) ∙ rw (drop-drop (suc k) i s)
 
 pub ascii_len : (s : List ℕ) (i : ℕ) → i < length s → get_or s i 0 < 0x80 → 1 ≡ char_len (drop i s)
-ascii_len s i h k = len_by s i h (some []) (row_one (get_or s i 0) k)
+ascii_len s i h k = len_by s i h (Some []) (row_one (get_or s i 0) k)
 
 -- a first byte is at most F4
 pub first_low : (s : List ℕ) (i n : ℕ) → i < length s → suc n ≡ char_len (drop i s) → get_or s i 0 ≤ 0xF4
 first_low s i n h e = go (dec_lt 0xF4 (get_or s i 0))
   where
     go : Dec (0xF4 < get_or s i 0) → get_or s i 0 ≤ 0xF4
-    go (yes l) = absurd (let z : 0 ≡ char_len (drop i s) = len_by s i h none (row_high (get_or s i 0) l) in omega arith)
+    go (yes l) = absurd (let z : 0 ≡ char_len (drop i s) = len_by s i h None (row_high (get_or s i 0) l) in omega arith)
     go (no l) = omega arith
 
 -- the first bytes of a text at a place

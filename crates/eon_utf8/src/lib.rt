@@ -1,8 +1,7 @@
 // UTF-8 by Table 3-7 of the Unicode standard.
 #![tactic(auto)]
 
-ghost use Rattle.std.specs.Prelude.{◌≡◌, ◌∷◌, [], ◌+◌, ◌-◌, ◌*◌, ◌≤◌, ◌<◌, length, drop, replicate};
-ghost use Rattle.std.proofs.Math.Option.{some};
+ghost use Rattle.std.specs.Prelude.{◌≡◌, ◌∷◌, [], ◌+◌, ◌-◌, ◌*◌, ◌≤◌, ◌<◌, length, drop, replicate, Some};
 ghost use Rattle.eon_spec.specs.Base.{within};
 ghost use Rattle.eon_spec.specs.Utf8.{◌to◌, trailing, len_if, well_formed_from, well_formed_len};
 ghost use Rattle.eon_utf8.specs.Post.{CharLen, CharAt};
@@ -20,7 +19,7 @@ pub fn in_range(b: u8, lo: u8, hi: u8) -> bool
 // The length of a character with n further bytes, the first of them from lo to hi; 0 if the text has others.
 fn fits_len(text: &[u8], at: usize, lo: u8, hi: u8, n: usize) -> usize
     requires { (at ≤ length text.now) × (1 ≤ n) × (n ≤ 3) }
-    ensures { (result ≡ len_if (some (lo to hi ∷ replicate (n - 1) trailing)) (drop at text.now)) × (result ≤ 4) }
+    ensures { (result ≡ len_if (Some (lo to hi ∷ replicate (n - 1) trailing)) (drop at text.now)) × (result ≤ 4) }
 {
     if text.len() - at < n {
         return 0;
@@ -43,7 +42,7 @@ fn fits_len(text: &[u8], at: usize, lo: u8, hi: u8, n: usize) -> usize
     4
 }
 
-// The length of the well-formed character at a place, 0 if there is none.
+// The length of the well-formed character at a place, 0 if there is None.
 pub fn char_len(text: &[u8], at: usize) -> usize
     ensures { CharLen text.now at result }
 {
@@ -137,7 +136,7 @@ fn with_byte(high: u32, b: u8) -> u32
     high * 64 + above(b, 0x80)
 }
 
-// The character at a place, of length 0 if there is none.
+// The character at a place, of length 0 if there is None.
 pub fn char_at(text: &[u8], at: usize) -> Char
     ensures { CharAt text.now at result.code result.len }
 {

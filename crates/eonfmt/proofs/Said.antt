@@ -2,7 +2,7 @@
 use Rattle.std.proofs.Common.{◌≡◌, ℕ, List, replicate, refl, ap}
 use mathlib.Core.Path.{ap₂}
 use Rattle.eon_spec.specs.declared.Answer.{Answer}
-use Rattle.eon_spec.specs.declared.Refusal.{Refusal}
+use Rattle.eon_spec.specs.Refused.{Refusal}
 use Rattle.eon_spec.specs.declared.Run.{Run}
 use Rattle.eon_spec.specs.Calls.{Outcome, After, after, outcome_of}
 use Rattle.eon_spec.specs.Runs.{IsRun}

@@ -1,6 +1,6 @@
+use Rattle.std.specs.Prelude.{None, Some}
 use mathlib.Core.Path.{◌≡◌, sym, ap, ◌∙◌, subst}
 use mathlib.Core.Bool.{Bool, cond}
-use mathlib.Core.Option.{none, some}
 use Prim.Native.Nat.{ℕ}
 use lib.ListN.{length, length-replicate}
 use lib.Dec.{leb}
@@ -22,7 +22,7 @@ all_paths-count-requires c = let a = c.args in
     (length-replicate {A = ℕ} key_words 0, (a.paths.now, length (tree_records u.0), (u.0, (read_finished_lem a.paths.now a.paths_table.now u.0 u.1).holds)))
 
 -- what the path text says
-paths_are : (d : After-all_paths-count) → path_list d.requires.1.0 ≡ cond (leb d.all_paths-count.result paths_max) (some (rests d.args.paths.now d.all_paths-count.new.keys 0 (below d.all_paths-count.result))) none
+paths_are : (d : After-all_paths-count) → path_list d.requires.1.0 ≡ cond (leb d.all_paths-count.result paths_max) (Some (rests d.args.paths.now d.all_paths-count.new.keys 0 (below d.all_paths-count.result))) None
 paths_are d =
     let a = d.args in
     let u = d.requires.1 in
@@ -35,7 +35,7 @@ returns-then-count-gt-PATHS_MAX c = let a = c.args in
     subst (λ (o : Outcome Looked). IsLookup o c.refused.result)
     (ap refused_with c.new.ensures ∙ sym
     (form_refused a.text.now a.table.now a.paths.now a.paths_table.now t.0 t.1 u.0 u.1
-    (paths_are (goal.at.returns-then-count-gt-PATHS_MAX c).After-all_paths-count ∙ ap (λ (b : Bool). cond b (some (rests a.paths.now c.all_paths-count.new.keys 0 (below c.all_paths-count.result))) none) (lt-leb c.all_paths-count.result paths_max c.if-count-gt-PATHS_MAX.true))))
+    (paths_are (goal.at.returns-then-count-gt-PATHS_MAX c).After-all_paths-count ∙ ap (λ (b : Bool). cond b (Some (rests a.paths.now c.all_paths-count.new.keys 0 (below c.all_paths-count.result))) None) (lt-leb c.all_paths-count.result paths_max c.if-count-gt-PATHS_MAX.true))))
     c.refused.ensures
 
 pub walk-steps-requires : goal.walk-steps-requires
@@ -56,5 +56,5 @@ returns c = let a = c.args in
     subst (λ (o : Outcome Looked). IsLookup o (record { answer = answer.Done c.walk-steps.result; answers = c.walk-steps.new.answers }))
     (sym
     (looked_up a.text.now a.table.now a.paths.now a.paths_table.now t.0 t.1 u.0 u.1 ps
-    (paths_are (goal.at.returns c).After-all_paths-count ∙ ap (λ (b : Bool). cond b (some ps) none) (le-leb n paths_max c.if-count-gt-PATHS_MAX.false))))
+    (paths_are (goal.at.returns c).After-all_paths-count ∙ ap (λ (b : Bool). cond b (Some ps) None) (le-leb n paths_max c.if-count-gt-PATHS_MAX.false))))
     (found_is a.paths.now c.all_paths-count.new.keys t.0 n c.if-count-gt-PATHS_MAX.false c.walk-steps.new.answers c.walk-steps.result (c.walk-steps.ensures (length (tree_records t.0)) t.0 (read_finished_lem a.text.now a.table.now t.0 t.1).holds))

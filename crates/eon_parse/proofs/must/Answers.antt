@@ -1,6 +1,6 @@
 use mathlib.Core.Path.{ap, ◌∙◌}
 use native.Mathlib.Omega.{arith}
-use Rattle.eon_spec.specs.declared.Refusal.{Refusal}
+use Rattle.eon_spec.specs.Refused.{Refusal}
 use Rattle.eon_token.specs.declared.token_kind.PlacedToken.{PlacedToken}
 use Rattle.eon_token.proofs.Places.{kind_lt}
 use Rattle.eon_parse.specs.Answer.{stop_of, place}

@@ -1,6 +1,6 @@
 use mathlib.Core.Path.{ap, ◌∙◌}
 use lib.ListN.{length}
-use Rattle.eon_spec.specs.declared.Refusal.{Refusal}
+use Rattle.eon_spec.specs.Refused.{Refusal}
 use Rattle.eon_parse.specs.Answer.{stop_of}
 use Rattle.eon_parse.specs.declared.Bare.TheVariants.{Refused}
 use Rattle.eon_parse.proofs.Steps.{none_end, none_token}

@@ -1,5 +1,5 @@
 use mathlib.Core.Path.{ap}
-use Rattle.eon_spec.specs.declared.Refusal.{Refusal}
+use Rattle.eon_spec.specs.Refused.{Refusal}
 use Rattle.eon_parse.specs.Answer.{stop_of}
 use Rattle.eon_parse.proofs.too_deep.Goals as goal
 

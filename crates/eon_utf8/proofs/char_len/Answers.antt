@@ -1,8 +1,8 @@
+use Rattle.std.specs.Prelude.{None, Some}
 use native.Mathlib.Omega.{arith}
 use mathlib.Core.Path.{sym, ◌∙◌}
 use lib.ListN.{get_or}
 use mathlib.Core.List.{[]}
-use mathlib.Core.Option.{none, some}
 use Rattle.eon_utf8.proofs.Rows.{len_past, len_by, row_one, row_low, row_two, row_E0, row_ED, row_three, row_F0, row_four, row_F4, row_high}
 use Rattle.eon_utf8.proofs.Formed.{facts}
 use Rattle.eon_utf8.proofs.char_len.Goals as goal
@@ -15,11 +15,11 @@ returns-then-text-at c = let args = c.args in
 
 pub returns-then-b-lt128 : goal.returns-then-b-lt128
 returns-then-b-lt128 c = let args = c.args in
-    facts args.text.now args.at 1 (len_by args.text.now args.at (omega arith) (some []) (row_one (get_or args.text.now args.at 0) c.if-b-lt128.true)) (omega arith)
+    facts args.text.now args.at 1 (len_by args.text.now args.at (omega arith) (Some []) (row_one (get_or args.text.now args.at 0) c.if-b-lt128.true)) (omega arith)
 
 pub returns-then-b-lt194 : goal.returns-then-b-lt194
 returns-then-b-lt194 c = let args = c.args in
-    facts args.text.now args.at 0 (len_by args.text.now args.at (omega arith) none (row_low (get_or args.text.now args.at 0) (omega arith) c.if-b-lt194.true)) (omega arith)
+    facts args.text.now args.at 0 (len_by args.text.now args.at (omega arith) None (row_low (get_or args.text.now args.at 0) (omega arith) c.if-b-lt194.true)) (omega arith)
 
 pub returns-then-b-lt224 : goal.returns-then-b-lt224
 returns-then-b-lt224 c = let args = c.args in
@@ -51,4 +51,4 @@ returns-then-b-4 c = let args = c.args in
 
 pub returns : goal.returns
 returns c = let args = c.args in
-    facts args.text.now args.at 0 (len_by args.text.now args.at (omega arith) none (row_high (get_or args.text.now args.at 0) (omega arith))) (omega arith)
+    facts args.text.now args.at 0 (len_by args.text.now args.at (omega arith) None (row_high (get_or args.text.now args.at 0) (omega arith))) (omega arith)

@@ -1,5 +1,5 @@
+use Rattle.std.specs.Prelude.{Some}
 use mathlib.Core.Path.{◌≡◌, refl, sym, ap, ap₂, ◌∙◌, subst}
-use mathlib.Core.Option.{some}
 use mathlib.Core.List.{List}
 use Prim.Native.Nat.{ℕ, ◌+◌, ◌*◌, ◌≤◌, ◌<◌}
 use native.Mathlib.Omega.{arith}
@@ -129,7 +129,7 @@ loop-i-preserved c = let a = c.args in
       λ q vs cl h. subst (λ (ks : Path). Listed key_of keys_of refl (λ t ts. refl) q a.table.now (a.i + c.size.result) vs cl c.next_tree-j.result ks)
           (sym (key_put q c.loop-i.keys c.loop-i.n a.base f e (omega (arith, l, c.requires.0, c.loop-i.invariant.1))))
           (listed_next key_of keys_of refl (λ t ts. refl) q a.table.now (a.i + c.size.result) vs cl c.loop-i.j (keys_from q c.loop-i.keys a.base c.loop-i.n) (c.loop-i.invariant.3 q vs cl h) (sym c.more.ensures ∙ c.loop-i-test.true) c.next_tree-j.result c.next_tree-j.ensures (part q f e)
-          (λ u b. key_here_lem q a.table.now (a.i + c.size.result) c.loop-i.j k u b c.after_prefix-k.ensures ∙ a_key q a.table.now k key ∙ ap some (key_part q a.table.now k key ∙ ap₂ (part q) (sym c.start.ensures.0) (sym c.text_end.ensures.0)))),
+          (λ u b. key_here_lem q a.table.now (a.i + c.size.result) c.loop-i.j k u b c.after_prefix-k.ensures ∙ a_key q a.table.now k key ∙ ap Some (key_part q a.table.now k key ∙ ap₂ (part q) (sym c.start.ensures.0) (sym c.text_end.ensures.0)))),
     )
 
 pub returns : goal.returns
