@@ -2,7 +2,7 @@
 ghost use Rattle.std.specs.Prelude.{◌≡◌, List, length, ℕ, ◌+◌, ◌*◌, ◌^◌, ◌≤◌, ◌<◌, ◌↔◌, IsTrue};
 ghost use Rattle.eon_spec.specs.RecordKind.{word_of};
 ghost use Rattle.eon_spec.specs.Calls.{record_text};
-ghost use Rattle.eon_table.specs.Words.{word, record_of, part, has_suffix, more_at, AfterPrefix};
+ghost use Rattle.eon_table.specs.Words.{word, record_of, part, text_at, has_suffix, more_at, AfterPrefix};
 ghost use Rattle.eon_table.specs.TreeAt.{SomeTree, NextAt};
 
 use eon_spec::RecordKind;
@@ -82,14 +82,21 @@ impl<'a> Sheet<'a> {
 
     // ---- texts
 
-    // The bytes of a leaf or a comment, a variant's name, and nothing of a list or a map.
+    // The bytes of a leaf or a comment, and of a variant its name.
+    pub fn text_at(self, i: usize) -> &'a [u8]
+        ensures { result.now ≡ text_at self.entry.text.now self.entry.table.now i }
+    {
+        part(self.text, self.start(i), self.text_end(i))
+    }
+
+    // The same, and nothing of a list or a map.
     pub fn record_text(self, i: usize) -> &'a [u8]
         ensures { result.now ≡ record_text self.entry.text.now (record_of self.entry.table.now i) }
     {
         if self.is(i, RecordKind::List) || self.is(i, RecordKind::Map) {
             return &[];
         }
-        part(self.text, self.start(i), self.text_end(i))
+        self.text_at(i)
     }
 
     // ---- the steps of a walk
