@@ -9,23 +9,27 @@ use lib.Seq.{sets, drop-cons}
 use lib.Dec.{eqb, ltb}
 use borrow.Author.Tests.{le-leb, lt-leb, ltb-true, ltb-false}
 use Rattle.eon_spec.specs.Base.{eq_list}
+use Rattle.eon_spec.specs.Refused.{refusal_of}
+use Rattle.eon_spec.specs.Refused as paper
+use Rattle.eon_spec.specs.declared.refusal.Reason.{Reason}
+use Rattle.eon_spec.specs.declared.refusal.Reason.TheVariants.{Overlong, Garbled, Surplus, NoSpace, Stale}
 use Rattle.eon_spec.specs.Utf8.{is_utf8, well_formed_len}
 use Rattle.eon_spec.specs.Tree.{Span, TokenTree}
-use Rattle.eon_spec.specs.Refused.{Refusal}
-use Rattle.eon_spec.specs.Parse.{refusal, Parsed, parsed, refused_by, parse}
+use Rattle.eon_spec.specs.declared.refusal.Refusal.{Refusal}
+use Rattle.eon_spec.specs.Parse.{refusal as at_paper, Parsed, parsed, refused_by, parse}
 use Rattle.eon_spec.specs.Records.{words, tree_records}
 use Rattle.eon_laws.proofs.Records.{words_length}
 use Rattle.eon_laws.proofs.Checked.{checked_long, checked_bad, checked_good}
 use Rattle.eon_spec.specs.Calls.{Outcome, done, refused_with, nowhere, parsed_outcome, read_text, then, written, after, outcome_of, fill, read_call, is_finished, read_finished}
 use Rattle.eon_token.specs.Place.{span, kind_at, next_span, Spot, place_of, cursor_at}
-use Rattle.eon_parse.specs.Walk.{Out, refuse, got, Records, one, two, inside, header, below, stops, run, end_of}
+use Rattle.eon_parse.specs.Walk.{refused_at, Out, refuse, got, Records, one, two, inside, header, below, stops, run, end_of}
 use Rattle.eon_parse.specs.Top.{Shape, denied, asMap, asSingle, asSeveral, Whole, denies, gives, whole_of, shape_whole, ended, several_by, list_by, map_by, top_at}
 use Rattle.eon_parse.specs.Tops.{top_view}
 use Rattle.eon_parse.specs.Answer.{agrees, holds}
-use Rattle.eon_parse.specs.Call.{FilledW, FilledO, count_of, placed_answer}
+use Rattle.eon_parse.specs.Call.{FilledW, FilledO, count_of}
 use Rattle.eon_parse.specs.declared.Top.TheVariants.{Denied, Map, Single, Several}
-use Rattle.eon_spec.specs.declared.Answer.{Answer}
-use Rattle.eon_spec.specs.declared.Answer.TheVariants.{Done, Refused}
+use Rattle.std.specs.Prelude.{Result}
+use Rattle.std.specs.Prelude.{Ok, Err}
 use Rattle.eon_token.proofs.Places.{start_spot}
 use Rattle.eon_parse.proofs.Left.{map_reach, list_reach, one_far, below_far}
 use Rattle.eon_parse.proofs.Laws.{Came, Failed}
@@ -37,6 +41,10 @@ use Rattle.eon_parse.specs.declared.Walk.{Walk}
 use Rattle.eon_parse.specs.declared.Stop.{Stop}
 use Rattle.eon_parse.proofs.Store.{sets_front}
 use Rattle.eon_parse.proofs.Whole.{whole_is}
+
+-- a text that is refused at a place of no length
+abbrev pub stuck : Reason → ℕ → Result ℕ Refusal
+stuck r n = Err (record { reason = r; start = n; end = n })
 
 -- ---- the comparison is the definition's
 
@@ -101,21 +109,21 @@ module _ (s tb : List ℕ) (u8 : is_utf8 s ≡ true) (short : length s ≤ 65535
 
   -- ---- reading
 
-  abbrev Reads : Answer → List ℕ → Type 0
+  abbrev Reads : Result ℕ Refusal → List ℕ → Type 0
   Reads a tb' = after (outcome_of a) tb' ≡ read_call s tb
 
-  denied_out : (r : Refusal) → shape_whole (top_at s) ≡ denies r → Reads (Refused r) tb
+  denied_out : (r : Refusal) → shape_whole (top_at s) ≡ denies (refusal_of r) → Reads (Err r) tb
   unfolding fill
   denied_out r e = sym (read_is ∙ ap (λ (w : Whole). fill tb (whole_out w)) e)
 
-  room_out : (ts : Records) → shape_whole (top_at s) ≡ gives ts → 5 * length ts ≤ length tb → (tb' : List ℕ) → tb' ≡ sets tb 0 (words ts) → Reads (Done (length ts)) tb'
+  room_out : (ts : Records) → shape_whole (top_at s) ≡ gives ts → 5 * length ts ≤ length tb → (tb' : List ℕ) → tb' ≡ sets tb 0 (words ts) → Reads (Ok (length ts)) tb'
   unfolding fill
   room_out ts e h tb' f =
       let k : length (words ts) ≤ length tb = omega (arith, words_length ts) in
       let q : read_call s tb ≡ after (done (length ts)) (written (words ts) tb) = read_is ∙ ap (λ (w : Whole). fill tb (whole_out w)) e ∙ rw (le-leb (length (words ts)) (length tb) k, fill) in
       ap (after (done (length ts))) (f ∙ sets_front tb (words ts) (length (words ts)) refl k) ∙ sym q
 
-  full_out : (ts : Records) → shape_whole (top_at s) ≡ gives ts → length tb < 5 * length ts → Reads (placed_answer 14 0) tb
+  full_out : (ts : Records) → shape_whole (top_at s) ≡ gives ts → length tb < 5 * length ts → Reads (stuck NoSpace 0) tb
   unfolding fill
   full_out ts e h =
       let k : length tb < length (words ts) = omega (arith, words_length ts) in
@@ -140,7 +148,7 @@ module _ (s tb : List ℕ) (u8 : is_utf8 s ≡ true) (short : length s ≤ 65535
 
   end_way : (l : Span) (x : Shape) → Way x → Way (ended s l x)
   unfolding ended
-  end_way l x w = go (eqb (kind_at s l) 16) (refusal 13 (next_span s l))
+  end_way l x w = go (eqb (kind_at s l) 16) (refused_at Surplus (next_span s l))
     where
       go : (b : Bool) (r : Refusal) → Way (cond b x (denied r))
       go true r = w
@@ -232,65 +240,65 @@ module _ (s tb : List ℕ) (u8 : is_utf8 s ≡ true) (short : length s ≤ 65535
       let f : (0 + length d.0 ≤ d.1.end) × Spot s d.1 = rw d.2 at (list_reach s (below 128 s) (below_far 128 s) (span 0 0) (start_spot s u8)) in
       omega (arith, d.4.0, f.0, f.1.within)
 
-  pub reads_denied : (r : Refusal) → top_view tb false (top_at s) ≡ Denied r → Reads (Refused r) tb
-  reads_denied r e = let d = was_denied false r e in subst (λ (q : Refusal). Reads (Refused q) tb) (sym d.2) (denied_out d.0 (ap shape_whole d.1))
+  pub reads_denied : (r : Refusal) → top_view tb false (top_at s) ≡ Denied r → Reads (Err r) tb
+  reads_denied r e = let d = was_denied false r e in subst (λ (q : Refusal). Reads (Err q) tb) (sym d.2) (denied_out d.0 (ap shape_whole d.1))
 
-  room : (ts : Records) (n : ℕ) → n ≡ length ts → shape_whole (top_at s) ≡ gives ts → 5 * n ≤ length tb → (tb' : List ℕ) → tb' ≡ sets tb 0 (words ts) → Reads (Done n) tb'
-  room ts n e f h tb' k = subst (λ (m : ℕ). Reads (Done m) tb') (sym e) (room_out ts f (omega arith) tb' k)
+  room : (ts : Records) (n : ℕ) → n ≡ length ts → shape_whole (top_at s) ≡ gives ts → 5 * n ≤ length tb → (tb' : List ℕ) → tb' ≡ sets tb 0 (words ts) → Reads (Ok n) tb'
+  room ts n e f h tb' k = subst (λ (m : ℕ). Reads (Ok m) tb') (sym e) (room_out ts f (omega arith) tb' k)
 
-  full : (ts : Records) (n : ℕ) → n ≡ length ts → shape_whole (top_at s) ≡ gives ts → length tb < 5 * n → Reads (placed_answer 14 0) tb
+  full : (ts : Records) (n : ℕ) → n ≡ length ts → shape_whole (top_at s) ≡ gives ts → length tb < 5 * n → Reads (stuck NoSpace 0) tb
   full ts n e f h = full_out ts f (omega arith)
 
-  pub reads_map : (n : ℕ) (z : Bool) → top_view tb false (top_at s) ≡ Map n z → 5 * n ≤ length tb → (tb' : List ℕ) → FilledW (length s) 5 tb map_o tb' → Reads (Done n) tb'
+  pub reads_map : (n : ℕ) (z : Bool) → top_view tb false (top_at s) ≡ Map n z → 5 * n ≤ length tb → (tb' : List ℕ) → FilledW (length s) 5 tb map_o tb' → Reads (Ok n) tb'
   reads_map n z e h tb' f =
       let d = was_map false n z e in
       room (header 5 0 0 (length s) d.0 ∷ d.0) n d.4.0 (ap shape_whole d.3) h tb' (subst (λ (o : Out Records). FilledW (length s) 5 tb o tb') d.2 f)
 
-  pub reads_map_full : (n : ℕ) (z : Bool) → top_view tb false (top_at s) ≡ Map n z → length tb < 5 * n → Reads (placed_answer 14 0) tb
+  pub reads_map_full : (n : ℕ) (z : Bool) → top_view tb false (top_at s) ≡ Map n z → length tb < 5 * n → Reads (stuck NoSpace 0) tb
   reads_map_full n z e h = let d = was_map false n z e in full (header 5 0 0 (length s) d.0 ∷ d.0) n d.4.0 (ap shape_whole d.3) h
 
-  pub reads_single : (n : ℕ) (z : Bool) → top_view tb false (top_at s) ≡ Single n z → 5 * n ≤ length tb → (tb' : List ℕ) → FilledO tb one_o tb' → Reads (Done n) tb'
+  pub reads_single : (n : ℕ) (z : Bool) → top_view tb false (top_at s) ≡ Single n z → 5 * n ≤ length tb → (tb' : List ℕ) → FilledO tb one_o tb' → Reads (Ok n) tb'
   reads_single n z e h tb' f =
       let d = was_single false n z e in
       room d.0 n d.4.0 (ap shape_whole d.3) h tb' (subst (λ (o : Out Records). FilledO tb o tb') d.2 f)
 
-  pub reads_single_full : (n : ℕ) (z : Bool) → top_view tb false (top_at s) ≡ Single n z → length tb < 5 * n → Reads (placed_answer 14 0) tb
+  pub reads_single_full : (n : ℕ) (z : Bool) → top_view tb false (top_at s) ≡ Single n z → length tb < 5 * n → Reads (stuck NoSpace 0) tb
   reads_single_full n z e h = let d = was_single false n z e in full d.0 n d.4.0 (ap shape_whole d.3) h
 
-  pub reads_several : (n : ℕ) (z : Bool) → top_view tb false (top_at s) ≡ Several n z → 5 * n ≤ length tb → (tb' : List ℕ) → FilledW (length s) 4 tb list_o tb' → Reads (Done n) tb'
+  pub reads_several : (n : ℕ) (z : Bool) → top_view tb false (top_at s) ≡ Several n z → 5 * n ≤ length tb → (tb' : List ℕ) → FilledW (length s) 4 tb list_o tb' → Reads (Ok n) tb'
   reads_several n z e h tb' f =
       let d = was_several false n z e in
       room (header 4 0 0 (length s) d.0 ∷ d.0) n d.4.0 (ap shape_whole d.3) h tb' (subst (λ (o : Out Records). FilledW (length s) 4 tb o tb') d.2 f)
 
-  pub reads_several_full : (n : ℕ) (z : Bool) → top_view tb false (top_at s) ≡ Several n z → length tb < 5 * n → Reads (placed_answer 14 0) tb
+  pub reads_several_full : (n : ℕ) (z : Bool) → top_view tb false (top_at s) ≡ Several n z → length tb < 5 * n → Reads (stuck NoSpace 0) tb
   reads_several_full n z e h = let d = was_several false n z e in full (header 4 0 0 (length s) d.0 ∷ d.0) n d.4.0 (ap shape_whole d.3) h
 
   -- ---- a finished table
 
-  abbrev Fin : Answer → Type 0
+  abbrev Fin : Result ℕ Refusal → Type 0
   Fin a = outcome_of a ≡ then (read_finished s tb) count_of
 
-  pub fin_denied : (r : Refusal) → top_view tb true (top_at s) ≡ Denied r → Fin (Refused r)
-  fin_denied r e = let d = was_denied true r e in ap refused_with d.2 ∙ sym (fin_is ∙ ap (λ (x : Shape). fin_out tb (shape_whole x)) d.1)
+  pub fin_denied : (r : Refusal) → top_view tb true (top_at s) ≡ Denied r → Fin (Err r)
+  fin_denied r e = let d = was_denied true r e in ap (λ (q : Refusal). refused_with (refusal_of q)) d.2 ∙ sym (fin_is ∙ ap (λ (x : Shape). fin_out tb (shape_whole x)) d.1)
 
-  fin_by : (ts : Records) (n : ℕ) (z : Bool) → shape_whole (top_at s) ≡ gives ts → n ≡ length ts → z ≡ agrees tb 0 (words ts) → Fin (cond z (Done n) (placed_answer 15 0))
+  fin_by : (ts : Records) (n : ℕ) (z : Bool) → shape_whole (top_at s) ≡ gives ts → n ≡ length ts → z ≡ agrees tb 0 (words ts) → Fin (cond z (Ok n) (stuck Stale 0))
   fin_by ts n z e f g =
       push z
       ∙ ap (λ (x : Bool). cond x (done n) (refused_with (nowhere 15))) (g ∙ agrees_list tb (words ts) 0)
       ∙ ap (λ (m : ℕ). cond (eq_list (take (length (words ts)) tb) (words ts)) (done m) (refused_with (nowhere 15))) f
       ∙ sym (fin_is ∙ ap (fin_out tb) e)
     where
-      push : (x : Bool) → outcome_of (cond x (Done n) (placed_answer 15 0)) ≡ cond x (done n) (refused_with (nowhere 15))
+      push : (x : Bool) → outcome_of (cond x (Ok n) (stuck Stale 0)) ≡ cond x (done n) (refused_with (nowhere 15))
       push true = refl
       push false = refl
 
-  pub fin_map : (n : ℕ) (z : Bool) → top_view tb true (top_at s) ≡ Map n z → Fin (cond z (Done n) (placed_answer 15 0))
+  pub fin_map : (n : ℕ) (z : Bool) → top_view tb true (top_at s) ≡ Map n z → Fin (cond z (Ok n) (stuck Stale 0))
   fin_map n z e = let d = was_map true n z e in fin_by (header 5 0 0 (length s) d.0 ∷ d.0) n z (ap shape_whole d.3) d.4.0 d.4.1
 
-  pub fin_single : (n : ℕ) (z : Bool) → top_view tb true (top_at s) ≡ Single n z → Fin (cond z (Done n) (placed_answer 15 0))
+  pub fin_single : (n : ℕ) (z : Bool) → top_view tb true (top_at s) ≡ Single n z → Fin (cond z (Ok n) (stuck Stale 0))
   fin_single n z e = let d = was_single true n z e in fin_by d.0 n z (ap shape_whole d.3) d.4.0 d.4.1
 
-  pub fin_several : (n : ℕ) (z : Bool) → top_view tb true (top_at s) ≡ Several n z → Fin (cond z (Done n) (placed_answer 15 0))
+  pub fin_several : (n : ℕ) (z : Bool) → top_view tb true (top_at s) ≡ Several n z → Fin (cond z (Ok n) (stuck Stale 0))
   fin_several n z e = let d = was_several true n z e in fin_by (header 4 0 0 (length s) d.0 ∷ d.0) n z (ap shape_whole d.3) d.4.0 d.4.1
 
 -- ---- a whole text is filled in
@@ -336,30 +344,30 @@ module _ (s tb : List ℕ) where
 -- ---- a text that is too long, or not UTF-8
 
 module _ (s tb : List ℕ) where
-  refused_read : (r : Refusal) → read_text s ≡ refused_with r → after (refused_with r) tb ≡ read_call s tb
+  refused_read : (r : paper.Refusal) → read_text s ≡ refused_with r → after (refused_with r) tb ≡ read_call s tb
   unfolding read_call fill
   refused_read r e = sym (ap (λ (o : Outcome TokenTree). fill tb (then o (λ t. done (length (tree_records t), words (tree_records t))))) e)
 
-  refused_fin : (r : Refusal) → read_text s ≡ refused_with r → refused_with r ≡ then (read_finished s tb) count_of
+  refused_fin : (r : paper.Refusal) → read_text s ≡ refused_with r → refused_with r ≡ then (read_finished s tb) count_of
   unfolding read_finished
   refused_fin r e = sym (ap (λ (o : Outcome TokenTree). then (then o (finish tb)) count_of) e)
 
-  pub long_text : 65535 < length s → read_text s ≡ refused_with (refusal 1 (span 65535 65535))
+  pub long_text : 65535 < length s → read_text s ≡ refused_with (at_paper 1 (span 65535 65535))
   unfolding read_text
   long_text h = checked_long s (λ t. parsed_outcome (parse t)) h
 
-  pub bad_text : length s ≤ 65535 → (n : ℕ) → n ≡ well_formed_len s → (n ≡ length s → ⊥) → read_text s ≡ refused_with (refusal 2 (span n n))
+  pub bad_text : length s ≤ 65535 → (n : ℕ) → n ≡ well_formed_len s → (n ≡ length s → ⊥) → read_text s ≡ refused_with (at_paper 2 (span n n))
   unfolding read_text
   bad_text h n e f = checked_bad s (λ t. parsed_outcome (parse t)) h n e f
 
-  pub read_long : 65535 < length s → after (outcome_of (placed_answer 1 65535)) tb ≡ read_call s tb
-  read_long h = refused_read (refusal 1 (span 65535 65535)) (long_text h)
+  pub read_long : 65535 < length s → after (outcome_of (stuck Overlong 65535)) tb ≡ read_call s tb
+  read_long h = refused_read (at_paper 1 (span 65535 65535)) (long_text h)
 
-  pub fin_long : 65535 < length s → outcome_of (placed_answer 1 65535) ≡ then (read_finished s tb) count_of
-  fin_long h = refused_fin (refusal 1 (span 65535 65535)) (long_text h)
+  pub fin_long : 65535 < length s → outcome_of (stuck Overlong 65535) ≡ then (read_finished s tb) count_of
+  fin_long h = refused_fin (at_paper 1 (span 65535 65535)) (long_text h)
 
-  pub read_bad : length s ≤ 65535 → (n : ℕ) → n ≡ well_formed_len s → (n ≡ length s → ⊥) → after (outcome_of (placed_answer 2 n)) tb ≡ read_call s tb
-  read_bad h n e f = refused_read (refusal 2 (span n n)) (bad_text h n e f)
+  pub read_bad : length s ≤ 65535 → (n : ℕ) → n ≡ well_formed_len s → (n ≡ length s → ⊥) → after (outcome_of (stuck Garbled n)) tb ≡ read_call s tb
+  read_bad h n e f = refused_read (at_paper 2 (span n n)) (bad_text h n e f)
 
-  pub fin_bad : length s ≤ 65535 → (n : ℕ) → n ≡ well_formed_len s → (n ≡ length s → ⊥) → outcome_of (placed_answer 2 n) ≡ then (read_finished s tb) count_of
-  fin_bad h n e f = refused_fin (refusal 2 (span n n)) (bad_text h n e f)
+  pub fin_bad : length s ≤ 65535 → (n : ℕ) → n ≡ well_formed_len s → (n ≡ length s → ⊥) → outcome_of (stuck Garbled n) ≡ then (read_finished s tb) count_of
+  fin_bad h n e f = refused_fin (at_paper 2 (span n n)) (bad_text h n e f)

@@ -1,4 +1,5 @@
 -- The filling pass as a sink, and what its contracts say. Assumes nothing.
+use Rattle.eon_spec.specs.declared.refusal.Reason.TheVariants.{MissingValue}
 use mathlib.Core.Path.{◌≡◌, refl, sym, ap, ◌∙◌, subst}
 use mathlib.Core.List.{List, [], ◌∷◌, ◌++◌}
 use mathlib.Core.Bool.{Bool, true, false, cond}
@@ -9,19 +10,19 @@ use lib.Seq.{sets, length-sets}
 use lib.Dec.{eqb}
 use borrow.Author.Tests.{lt-ltb, le-ltb}
 use Rattle.eon_spec.specs.Tree.{Span}
-use Rattle.eon_spec.specs.Parse.{refusal}
 use Rattle.eon_spec.specs.Records.{words, leaf}
 use Rattle.eon_laws.proofs.Records.{words_length}
+use Rattle.eon_spec.specs.declared.token_kind.TokenKind.{TokenKind}
 use Rattle.eon_token.specs.Place.{place_of, cursor_at, kind_at, next_span, span}
-use Rattle.eon_parse.specs.Walk.{Out, refuse, got, bind, Records, Item, header, text_end, tail_r, suffix_end, expect, closed, number_of}
-use Rattle.eon_parse.specs.Answer.{stop_of, place, Ready, passed, passed_here, stored, FilledF, FilledB, FilledI, FilledE, FilledC, settled_f, entered, moved, record_words, set_cursor, no_value, ReadyBare}
+use Rattle.eon_parse.specs.Walk.{Out, refuse, got, bind, Records, Item, header, text_end, tail_r, suffix_end, expect, closed, reason_of, refused_at}
+use Rattle.eon_parse.specs.Answer.{stop_of, place, Ready, passed, passed_here, stored, FilledF, FilledB, FilledI, FilledE, FilledC, settled_f, entered, moved, record_words, set_cursor, no_value, ReadyBare, past}
 use Rattle.eon_token.specs.declared.cursor.Cursor.{Cursor}
 use Rattle.eon_parse.specs.declared.Walk.{Walk}
 use Rattle.eon_parse.specs.declared.Stop.{Stop}
-use Rattle.eon_parse.specs.declared.Bare.{Bare}
-use Rattle.eon_parse.specs.declared.Bare.TheVariants.{Refused, Done}
-use Rattle.eon_parse.specs.declared.Got.{Got}
-use Rattle.eon_parse.specs.declared.Got.TheVariants.{Stopped, Value}
+use Rattle.std.specs.Prelude.{Result}
+use Rattle.std.specs.Prelude.{Err, Ok}
+use Rattle.eon_parse.specs.declared.Past.{Past}
+use Rattle.std.specs.Prelude.{Ok, Err}
 use Rattle.eon_parse.proofs.Laws.{Came, Failed, words_append}
 use Rattle.eon_parse.proofs.Left.{Reach}
 use Rattle.eon_parse.proofs.Sink.{Sink}
@@ -124,49 +125,48 @@ module _ (s tb : List ℕ) (w : Walk) where
       go true f g n m h = both h.0 h.1
       go false f g n m h = both h.0 h.1
 
-  pub fill_refused : (o : Out Records) (r : Bare) (tb' : List ℕ) → FilledB s tb w o r tb' → {x : Stop} → r ≡ Refused x → Failed o x
+  pub fill_refused : (o : Out Records) (r : Result Walk Stop) (tb' : List ℕ) → FilledB s tb w o r tb' → {x : Stop} → r ≡ Err x → Failed o x
   fill_refused (refuse n p) r tb' h e = record { why = n; far = p; is = refl; so = cc }
   fill_refused (got t n) r tb' h e = let h₀ = h.0 in let z : ◌≡◌ {A = ℕ} 0 1 = cc in absurd (omega arith)
 
-  pub fill_done : (o : Out Records) (r : Bare) (tb' : List ℕ) → FilledB s tb w o r tb' → {x : Walk} → r ≡ Done x → Came o (λ t n. page x tb' ≡ emit_p s (page w tb) t n)
+  pub fill_done : (o : Out Records) (r : Result Walk Stop) (tb' : List ℕ) → FilledB s tb w o r tb' → {x : Walk} → r ≡ Ok x → Came o (λ t n. page x tb' ≡ emit_p s (page w tb) t n)
   fill_done (refuse n p) r tb' h e = let z : ◌≡◌ {A = ℕ} 0 1 = cc in absurd (omega arith)
   fill_done (got t n) r tb' h {x} e = let h₀ = h.0 in let q : x ≡ passed s w t n = cc in record { what = t; next = n; is = refl; so = both q h.1 }
 
-  pub fill_stopped : (o : Out Item) (r : Got) (tb' : List ℕ) → FilledI s tb w o r tb' → {x : Stop} → r ≡ Stopped x → Failed o x
+  pub fill_stopped : (o : Out Item) (r : Result Past Stop) (tb' : List ℕ) → FilledI s tb w o r tb' → {x : Stop} → r ≡ Err x → Failed o x
   fill_stopped (refuse n p) r tb' h e = record { why = n; far = p; is = refl; so = cc }
   fill_stopped (got t n) r tb' h e = let h₀ = h.0 in let z : ◌≡◌ {A = ℕ} 0 1 = cc in absurd (omega arith)
 
-  pub fill_value : (o : Out Item) (r : Got) (tb' : List ℕ) → FilledI s tb w o r tb' → {x : Walk} {f : ℕ} → r ≡ Value x f
+  pub fill_value : (o : Out Item) (r : Result Past Stop) (tb' : List ℕ) → FilledI s tb w o r tb' → {x : Walk} {f : ℕ} → r ≡ past x f
       → Came o (λ i n. (page x tb' ≡ emit_p s (page w tb) i.body n) × (f ≡ i.from))
   fill_value (refuse n p) r tb' h e = let z : ◌≡◌ {A = ℕ} 0 1 = cc in absurd (omega arith)
   fill_value (got i n) r tb' h {x} {f} e =
       let h₀ = h.0 in
-      let q : x ≡ passed s w i.body n = cc in
-      let k : f ≡ i.from = cc in
-      record { what = i; next = n; is = refl; so = (both q h.1, k) }
+      let z : record { walk = x; from = f } ≡ record { walk = passed s w i.body n; from = i.from } = cc in
+      record { what = i; next = n; is = refl; so = (both (ap (λ (y : Past). y.walk) z) h.1, ap (λ (y : Past). y.from) z) }
 
-  pub fills_refused : (o : Out Records) (tb' : List ℕ) (x : Stop) → Failed o x → FilledB s tb w o (Refused x) tb'
-  fills_refused o tb' x f = subst (λ (z : Out Records). FilledB s tb w z (Refused x) tb') (sym f.is) (ap Refused f.so)
+  pub fills_refused : (o : Out Records) (tb' : List ℕ) (x : Stop) → Failed o x → FilledB s tb w o (Err x) tb'
+  fills_refused o tb' x f = subst (λ (z : Out Records). FilledB s tb w z (Err x) tb') (sym f.is) (ap Err f.so)
 
-  pub fills_done : (o : Out Records) (x : Walk) (tb' : List ℕ) → Came o (λ t n. page x tb' ≡ emit_p s (page w tb) t n) → FilledB s tb w o (Done x) tb'
+  pub fills_done : (o : Out Records) (x : Walk) (tb' : List ℕ) → Came o (λ t n. page x tb' ≡ emit_p s (page w tb) t n) → FilledB s tb w o (Ok x) tb'
   fills_done o x tb' r =
-      subst (λ (z : Out Records). FilledB s tb w z (Done x) tb') (sym r.is) (ap (λ (σ : Page). Done σ.cur) r.so, ap (λ (σ : Page). σ.tab) r.so)
+      subst (λ (z : Out Records). FilledB s tb w z (Ok x) tb') (sym r.is) (ap (λ (σ : Page). Ok σ.cur) r.so, ap (λ (σ : Page). σ.tab) r.so)
 
-  pub fills_stopped : (o : Out Item) (tb' : List ℕ) (x : Stop) → Failed o x → FilledI s tb w o (Stopped x) tb'
-  fills_stopped o tb' x f = subst (λ (z : Out Item). FilledI s tb w z (Stopped x) tb') (sym f.is) (ap Stopped f.so)
+  pub fills_stopped : (o : Out Item) (tb' : List ℕ) (x : Stop) → Failed o x → FilledI s tb w o (Err x) tb'
+  fills_stopped o tb' x f = subst (λ (z : Out Item). FilledI s tb w z (Err x) tb') (sym f.is) (ap Err f.so)
 
-  pub fills_value : (o : Out Item) (x : Walk) (f : ℕ) (tb' : List ℕ) → Came o (λ i n. (page x tb' ≡ emit_p s (page w tb) i.body n) × (f ≡ i.from)) → FilledI s tb w o (Value x f) tb'
+  pub fills_value : (o : Out Item) (x : Walk) (f : ℕ) (tb' : List ℕ) → Came o (λ i n. (page x tb' ≡ emit_p s (page w tb) i.body n) × (f ≡ i.from)) → FilledI s tb w o (past x f) tb'
   fills_value o x f tb' r =
-      subst (λ (z : Out Item). FilledI s tb w z (Value x f) tb') (sym r.is)
-      (ap (λ (σ : Page). Value σ.cur f) r.so.0 ∙ ap (Value (passed s w r.what.body r.next)) r.so.1, ap (λ (σ : Page). σ.tab) r.so.0)
+      subst (λ (z : Out Item). FilledI s tb w z (past x f) tb') (sym r.is)
+      (ap (λ (σ : Page). past σ.cur f) r.so.0 ∙ ap (past (passed s w r.what.body r.next)) r.so.1, ap (λ (σ : Page). σ.tab) r.so.0)
 
   -- a container is closed
-  pub fill_closed : (l : Span) (o : Out Records) (i : Bare) (tb₁ : List ℕ) → FilledB s tb (entered s w l) o i tb₁ → (close kind start name : ℕ) (r : Bare) (tb₂ : List ℕ)
+  pub fill_closed : (l : Span) (o : Out Records) (i : Result Walk Stop) (tb₁ : List ℕ) → FilledB s tb (entered s w l) o i tb₁ → (close : TokenKind) (kind start name : ℕ) (r : Result Walk Stop) (tb₂ : List ℕ)
       → FilledC s tb₁ i close w.count kind start name r tb₂ → FilledB s tb w (closed s kind close start name o) r tb₂
   unfolding closed
-  fill_closed l (refuse n p) i tb₁ h close kind start name r tb₂ k = subst (λ (b : Bare). FilledC s tb₁ b close w.count kind start name r tb₂) h k
+  fill_closed l (refuse n p) i tb₁ h close kind start name r tb₂ k = subst (λ (b : Result Walk Stop). FilledC s tb₁ b close w.count kind start name r tb₂) h k
   fill_closed l (got ts p) i tb₁ h close kind start name r tb₂ k =
-      go (expect s close p) (subst (λ (b : Bare). FilledC s tb₁ b close w.count kind start name r tb₂) h.0 k)
+      go (expect s close p) (subst (λ (b : Result Walk Stop). FilledC s tb₁ b close w.count kind start name r tb₂) h.0 k)
     where
       x : Walk
       x = passed s (entered s w l) ts p
@@ -175,24 +175,24 @@ module _ (s tb : List ℕ) (w : Walk) where
       go (refuse n q) e = e
       go (got u q) e =
           let f = finish_P s (page w tb) l ts p q kind start name in (
-            e.0 ∙ ap (λ (σ : Page). Done σ.cur) f,
+            e.0 ∙ ap (λ (σ : Page). Ok σ.cur) f,
             e.1 ∙ ap (λ (t : List ℕ). sets t (5 * w.count) (record_words (moved s x q) w.count kind start name)) h.1 ∙ ap (λ (σ : Page). σ.tab) f,
           )
 
-  pub fill_ready : Ready s w.cursor w.count → (base : ℕ) → base ≤ w.count → (o : Out Records) → Reach length s (place w) o → (b : Bare) (tb' : List ℕ) → FilledB s tb w o b tb' → ReadyBare s b base
+  pub fill_ready : Ready s w.cursor w.count → (base : ℕ) → base ≤ w.count → (o : Out Records) → Reach length s (place w) o → (b : Result Walk Stop) (tb' : List ℕ) → FilledB s tb w o b tb' → ReadyBare s b base
   fill_ready h base k (refuse r e) f b tb' q = rw q tt
   fill_ready h base k (got ts n) f b tb' q =
-      subst (λ (z : Bare). ReadyBare s z base) (sym q.0)
+      subst (λ (z : Result Walk Stop). ReadyBare s z base) (sym q.0)
       (emit_ready s (filling s) (page w tb) ts n (emit_p s (page w tb) ts n) refl h f.0 f.1, omega arith)
 
   -- a token that begins no value
-  pub none_fill : Ready s w.cursor w.count → (r : Bare) → r ≡ no_value (length s) w.cursor → (tb' : List ℕ)
-      → FilledB s tb w (cond (eqb (kind_at s (place w)) 16) (refuse (refusal 5 (span (length s) (length s))) w.cursor.end) (refuse (refusal (number_of (kind_at s (place w))) (next_span s (place w))) (next_span s (place w)).end)) r tb'
+  pub none_fill : Ready s w.cursor w.count → (r : Result Walk Stop) → r ≡ no_value (length s) w.cursor → (tb' : List ℕ)
+      → FilledB s tb w (cond (eqb (kind_at s (place w)) 16) (refuse (refused_at MissingValue (span (length s) (length s))) w.cursor.end) (refuse (refused_at (reason_of (kind_at s (place w))) (next_span s (place w))) (next_span s (place w)).end)) r tb'
   none_fill h r q tb' = go (eqb (kind_at s (place w)) 16) (q ∙ ap (no_value (length s)) h.fresh)
     where
-      go : (b : Bool) → r ≡ cond b (Refused (stop_of (refusal 5 (span (length s) (length s))) w.cursor.end))
-          (Refused (stop_of (refusal (number_of (kind_at s (place w))) (next_span s (place w))) (next_span s (place w)).end))
-          → FilledB s tb w (cond b (refuse (refusal 5 (span (length s) (length s))) w.cursor.end) (refuse (refusal (number_of (kind_at s (place w))) (next_span s (place w))) (next_span s (place w)).end)) r tb'
+      go : (b : Bool) → r ≡ cond b (Err (stop_of (refused_at MissingValue (span (length s) (length s))) w.cursor.end))
+          (Err (stop_of (refused_at (reason_of (kind_at s (place w))) (next_span s (place w))) (next_span s (place w)).end))
+          → FilledB s tb w (cond b (refuse (refused_at MissingValue (span (length s) (length s))) w.cursor.end) (refuse (refused_at (reason_of (kind_at s (place w))) (next_span s (place w))) (next_span s (place w)).end)) r tb'
       go true e = e
       go false e = e
 

@@ -1,5 +1,7 @@
 -- Either pass: its loops' invariant, and what a start, a turn, a stop and an end make of it.
 -- Assumes nothing.
+use Rattle.eon_spec.specs.declared.refusal.Reason.TheVariants.{MissingValue}
+use Rattle.eon_spec.specs.declared.token_kind.TokenKind.TheVariants.{Colon}
 use mathlib.Core.Path.{◌≡◌, refl, sym, ap, ◌∙◌, subst}
 use mathlib.Core.List.{List, [], ◌∷◌, ◌++◌}
 use mathlib.Core.Bool.{Bool, true, false, cond}
@@ -9,12 +11,11 @@ use lib.ListN.{length, length-append}
 use lib.Dec.{eqb}
 use borrow.Author.Tests.{eq-eqb, ne_eqb}
 use Rattle.eon_spec.specs.Tree.{Span}
-use Rattle.eon_spec.specs.Refused.{Refusal}
-use Rattle.eon_spec.specs.Parse.{refusal}
+use Rattle.eon_spec.specs.declared.refusal.Refusal.{Refusal}
 use Rattle.eon_spec.specs.Records.{Record, record_at, leaf}
 use Rattle.eon_token.specs.Placed.{placed_at}
 use Rattle.eon_token.specs.Place.{Spot, Standing, place_of, cursor_at, kind_at, next_span, span}
-use Rattle.eon_parse.specs.Walk.{Out, refuse, got, Records, strings, loop, run, expect, suffix_end, tail_r, Item, whole, settled, stops, one, two, inside, header, list_at, map_at, variant_at, leaf_at, string_at, bare_at, item_at, number_of}
+use Rattle.eon_parse.specs.Walk.{Out, refuse, got, Records, strings, loop, run, expect, suffix_end, tail_r, Item, whole, settled, stops, one, two, inside, header, list_at, map_at, variant_at, leaf_at, string_at, bare_at, item_at, reason_of, refused_at}
 use Rattle.eon_parse.specs.Answer.{Ready}
 use Rattle.eon_token.specs.declared.cursor.Cursor.{Cursor}
 use Rattle.eon_parse.proofs.Sink.{Sink}
@@ -47,7 +48,7 @@ module _ (s : List ℕ) (read : Span → Out Item) (at : Span) where
     bare_string e = simp (ne_eqb _ _ a, ne_eqb _ _ b, ne_eqb _ _ c, ne_eqb _ _ d, e)
 
     pub bare_none : strings (kind_at s at) ≡ false
-        → bare_at s read at ≡ cond (eqb (kind_at s at) 16) (refuse (refusal 5 (span (length s) (length s))) at.end) (refuse (refusal (number_of (kind_at s at)) (next_span s at)) (next_span s at).end)
+        → bare_at s read at ≡ cond (eqb (kind_at s at) 16) (refuse (refused_at MissingValue (span (length s) (length s))) at.end) (refuse (refused_at (reason_of (kind_at s at)) (next_span s at)) (next_span s at).end)
     unfolding bare_at
     bare_none e = simp (ne_eqb _ _ a, ne_eqb _ _ b, ne_eqb _ _ c, ne_eqb _ _ d, e)
 
@@ -250,11 +251,11 @@ module _ (s : List ℕ) (K : Sink s) where
         pub key_ready : Stands y
         key_ready = emit_ready e (whole v.what v.next) v.next y key_is pre_ready key_size v_far.3
 
-        pub colon_stop : {k : Refusal} {p : ℕ} → expect s 8 (pos y) ≡ refuse k p → two s read (pos d) ≡ refuse k p
+        pub colon_stop : {k : Refusal} {p : ℕ} → expect s Colon (pos y) ≡ refuse k p → two s read (pos d) ≡ refuse k p
         unfolding two
-        colon_stop r = rw pre.is (rw (sym (ap read pre.so.1) ∙ v.is) (rw (sym (ap (expect s 8) key_at_lem) ∙ r)))
+        colon_stop r = rw pre.is (rw (sym (ap read pre.so.1) ∙ v.is) (rw (sym (ap (expect s Colon) key_at_lem) ∙ r)))
 
-        module _ (z : S) (c : Came (expect s 8 (pos y)) (λ u n. z ≡ moved y n)) where
+        module _ (z : S) (c : Came (expect s Colon (pos y)) (λ u n. z ≡ moved y n)) where
           z_at : pos z ≡ c.next
           z_at = ap pos c.so ∙ ap place_of (moved_cur y c.next)
 
@@ -262,7 +263,7 @@ module _ (s : List ℕ) (K : Sink s) where
           z_is = c.so ∙ ap (λ (u : S). moved u c.next) key_is ∙ emit_moved e (whole v.what v.next) v.next c.next
 
           z_far : ((pos y).end + 1 ≤ c.next.end) × Spot s c.next
-          z_far = rw c.is at (expect_far s 8 (pos y) key_ready.bound)
+          z_far = rw c.is at (expect_far s Colon (pos y) key_ready.bound)
 
           pub colon_ready : Stands z
           colon_ready =
@@ -270,7 +271,7 @@ module _ (s : List ℕ) (K : Sink s) where
 
           pub value_stop : {k : Refusal} {p : ℕ} → read (pos z) ≡ refuse k p → two s read (pos d) ≡ refuse k p
           unfolding two
-          value_stop r = rw pre.is (rw (sym (ap read pre.so.1) ∙ v.is) (rw (sym (ap (expect s 8) key_at_lem) ∙ c.is) (rw (sym (ap read z_at) ∙ r))))
+          value_stop r = rw pre.is (rw (sym (ap read pre.so.1) ∙ v.is) (rw (sym (ap (expect s Colon) key_at_lem) ∙ c.is) (rw (sym (ap read z_at) ∙ r))))
 
           module _ (w : S) (since : ℕ) (u : Valued read z w since) where
             u_far : FarItem s (pos z) (got u.what u.next)
@@ -290,7 +291,7 @@ module _ (s : List ℕ) (K : Sink s) where
                 record {
                   what = (pre.what ++ k) ++ f.what;
                   next = f.next;
-                  is = rw pre.is (rw (sym (ap read pre.so.1) ∙ v.is) (rw (sym (ap (expect s 8) key_at_lem) ∙ c.is) (rw (sym (ap read z_at) ∙ u.is) (rw f.is))));
+                  is = rw pre.is (rw (sym (ap read pre.so.1) ∙ v.is) (rw (sym (ap (expect s Colon) key_at_lem) ∙ c.is) (rw (sym (ap read z_at) ∙ u.is) (rw f.is))));
                   so = (
                     f.so.0
                         ∙ ap (λ (m : S). emit m f.what f.next) (z_is ∙ ap (λ (m : S). emit m k c.next) pre.so.0 ∙ emit_emit d pre.what pre.next k c.next)

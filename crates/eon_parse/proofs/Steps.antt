@@ -1,4 +1,5 @@
 -- What the small functions' answers are, over plain variables. Assumes nothing.
+use Rattle.eon_spec.specs.declared.refusal.Reason.TheVariants.{MissingValue}
 use mathlib.Core.Path.{◌≡◌, refl, sym, ap, ◌∙◌}
 use mathlib.Core.List.{List, [], ◌∷◌}
 use mathlib.Core.Bool.{Bool, true, false, not, cond}
@@ -8,17 +9,20 @@ use lib.Seq.{sets}
 use lib.Dec.{eqb}
 use borrow.Author.Tests.{eq-eqb, ne_eqb, lt-ltb, le-ltb}
 use Rattle.eon_spec.specs.Tree.{Span}
-use Rattle.eon_spec.specs.Parse.{refusal}
+use Rattle.eon_spec.specs.declared.token_kind.TokenKind.{TokenKind}
+use Rattle.eon_spec.specs.Token.{kind_number}
+use Rattle.eon_spec.specs.declared.refusal.Reason.{Reason}
+use Rattle.eon_spec.specs.declared.refusal.Reason.TheVariants.{Stray, CutOff, Mismatch}
 use Rattle.eon_spec.specs.Records.{leaf}
-use Rattle.eon_token.specs.Placed.{placed_at}
+use Rattle.eon_token.specs.Placed.{placed_at, kind_of}
 use Rattle.eon_token.specs.Place.{span, place_of, cursor_at, kind_at, next_span, line_feed}
-use Rattle.eon_parse.specs.Walk.{Out, refuse, got, closes, strings, no_comment, expect, wrong, suffix_end, tail_r, text_end, number_of}
+use Rattle.eon_parse.specs.Walk.{Out, refuse, got, closes, strings, no_comment, expect, suffix_end, tail_r, text_end, reason_of, refused_at}
 use Rattle.eon_parse.specs.Answer.{agrees, stop_of, place, Ready, emit, expected, moved, record_words, compared_at, sealed_at, set_cursor, tailed, no_value, FilledE}
 use Rattle.eon_token.specs.declared.cursor.Cursor.{Cursor}
 use Rattle.eon_parse.specs.declared.Walk.{Walk}
 use Rattle.eon_token.specs.declared.token_kind.PlacedToken.{PlacedToken}
 use Rattle.eon_parse.specs.declared.Stop.{Stop}
-use Rattle.eon_parse.specs.declared.Bare.TheVariants.{Refused, Done}
+use Rattle.std.specs.Prelude.{Err, Ok}
 use Rattle.eon_parse.proofs.Laws.{picked}
 use Rattle.eon_parse.proofs.Pass.{peeks}
 
@@ -42,14 +46,14 @@ is_none s l e = ap not (ne_eqb (kind_at s l) 1 e)
 
 -- ---- a token that must come
 
-module _ (s : List ℕ) (w : Walk) (n : ℕ) (h : Ready s w.cursor n) (k : ℕ) (t : PlacedToken) (q : t ≡ w.cursor.peeked) where
+module _ (s : List ℕ) (w : Walk) (n : ℕ) (h : Ready s w.cursor n) (k : TokenKind) (t : PlacedToken) (q : t ≡ w.cursor.peeked) where
   p : t ≡ placed_at s w.cursor.end
   p = q ∙ peeks s w.cursor n h
 
   kind_is : t.kind ≡ kind_at s (place w)
   kind_is = ap (λ (u : PlacedToken). u.kind) p
 
-  pub must_end : t.kind ≡ 16 → Refused (stop_of (wrong 12 (place w) k 0) w.cursor.end) ≡ expected s w (expect s k (place w))
+  pub must_end : t.kind ≡ 16 → Err (stop_of (refused_at (CutOff k) (place w)) w.cursor.end) ≡ expected s w (expect s k (place w))
   unfolding expected expect
   must_end e = rw (eq-eqb _ _ (sym kind_is ∙ e))
 
@@ -57,23 +61,23 @@ module _ (s : List ℕ) (w : Walk) (n : ℕ) (h : Ready s w.cursor n) (k : ℕ) 
     not_end : eqb (kind_at s (place w)) 16 ≡ false
     not_end = ne_eqb _ _ (λ e. a (kind_is ∙ e))
 
-    pub must_stray : t.kind ≡ 0 → Refused (stop_of (wrong 3 (span t.start t.end) 0 0) t.end) ≡ expected s w (expect s k (place w))
+    pub must_stray : t.kind ≡ 0 → Err (stop_of (refused_at Stray (span t.start t.end)) t.end) ≡ expected s w (expect s k (place w))
     unfolding expected expect
     must_stray e =
-        ap (λ (u : PlacedToken). Refused (stop_of (wrong 3 (span u.start u.end) 0 0) u.end)) p ∙ rw (not_end, eq-eqb _ _ (sym kind_is ∙ e))
+        ap (λ (u : PlacedToken). Err (stop_of (refused_at Stray (span u.start u.end)) u.end)) p ∙ rw (not_end, eq-eqb _ _ (sym kind_is ∙ e))
 
     module _ (b : t.kind ≡ 0 → ⊥) where
       not_stray : eqb (kind_at s (place w)) 0 ≡ false
       not_stray = ne_eqb _ _ (λ e. b (kind_is ∙ e))
 
-      pub must_done : t.kind ≡ k → (x : Walk) → x ≡ moved s w (next_span s (place w)) → Done x ≡ expected s w (expect s k (place w))
+      pub must_done : t.kind ≡ kind_number k → (x : Walk) → x ≡ moved s w (next_span s (place w)) → Ok x ≡ expected s w (expect s k (place w))
       unfolding expected expect
-      must_done e x y = ap Done y ∙ rw (not_end, not_stray, eq-eqb _ _ (sym kind_is ∙ e))
+      must_done e x y = ap Ok y ∙ rw (not_end, not_stray, eq-eqb _ _ (sym kind_is ∙ e))
 
-      pub must_wrong : (t.kind ≡ k → ⊥) → Refused (stop_of (wrong 11 (span t.start t.end) k t.kind) t.end) ≡ expected s w (expect s k (place w))
+      pub must_wrong : (t.kind ≡ kind_number k → ⊥) → Err (stop_of (refused_at (Mismatch k (kind_of t.kind)) (span t.start t.end)) t.end) ≡ expected s w (expect s k (place w))
       unfolding expected expect
       must_wrong c =
-          ap (λ (u : PlacedToken). Refused (stop_of (wrong 11 (span u.start u.end) k u.kind) u.end)) p
+          ap (λ (u : PlacedToken). Err (stop_of (refused_at (Mismatch k (kind_of u.kind)) (span u.start u.end)) u.end)) p
           ∙ rw (not_end, not_stray, ne_eqb _ _ (λ e. c (kind_is ∙ e)))
 
 -- ---- a suffix comment
@@ -148,26 +152,26 @@ settle_comma s tb w d a e b f c r q =
 -- ---- a container's end
 
 module _ (s tb : List ℕ) (w : Walk) (base kind start name : ℕ) where
-  pub sealed_refused : (o : Out (Unit {0})) (x : Stop) → expected s w o ≡ Refused x → Refused x ≡ sealed_at s tb w o base kind start name
+  pub sealed_refused : (o : Out (Unit {0})) (x : Stop) → expected s w o ≡ Err x → Err x ≡ sealed_at s tb w o base kind start name
   unfolding expected sealed_at
   sealed_refused (refuse r p) x e = sym e
   sealed_refused (got u l) x e = let z : ◌≡◌ {A = ℕ} 0 1 = cc in absurd (omega arith)
 
-  pub sealed_done : (o : Out (Unit {0})) (y z : Walk) → expected s w o ≡ Done y → z ≡ compared_at y tb base kind start name → Done z ≡ sealed_at s tb w o base kind start name
+  pub sealed_done : (o : Out (Unit {0})) (y z : Walk) → expected s w o ≡ Ok y → z ≡ compared_at y tb base kind start name → Ok z ≡ sealed_at s tb w o base kind start name
   unfolding expected sealed_at
   sealed_done (refuse r p) y z e q = let z : ◌≡◌ {A = ℕ} 0 1 = cc in absurd (omega arith)
-  sealed_done (got u l) y z e q = let f : y ≡ moved s w l = cc in ap Done (q ∙ ap (λ (v : Walk). compared_at v tb base kind start name) f)
+  sealed_done (got u l) y z e q = let f : y ≡ moved s w l = cc in ap Ok (q ∙ ap (λ (v : Walk). compared_at v tb base kind start name) f)
 
 -- ---- a token that begins no value
 
 module _ (n : ℕ) (c : Cursor) (t : PlacedToken) (q : t ≡ c.peeked) where
-  pub none_end : t.kind ≡ 16 → Refused (stop_of (refusal 5 (span n n)) c.end) ≡ no_value n c
+  pub none_end : t.kind ≡ 16 → Err (stop_of (refused_at MissingValue (span n n)) c.end) ≡ no_value n c
   none_end e = rw (eq-eqb _ _ (sym (ap (λ (u : PlacedToken). u.kind) q) ∙ e))
 
-  pub none_token : (t.kind ≡ 16 → ⊥) → (m : ℕ) → m ≡ number_of t.kind → Refused (stop_of (refusal m (span t.start t.end)) t.end) ≡ no_value n c
+  pub none_token : (t.kind ≡ 16 → ⊥) → (m : Reason) → m ≡ reason_of t.kind → Err (stop_of (refused_at m (span t.start t.end)) t.end) ≡ no_value n c
   none_token a m e =
-      ap (λ (k : ℕ). Refused (stop_of (refusal k (span t.start t.end)) t.end)) e
-      ∙ ap (λ (u : PlacedToken). Refused (stop_of (refusal (number_of u.kind) (span u.start u.end)) u.end)) q
+      ap (λ (k : Reason). Err (stop_of (refused_at k (span t.start t.end)) t.end)) e
+      ∙ ap (λ (u : PlacedToken). Err (stop_of (refused_at (reason_of u.kind) (span u.start u.end)) u.end)) q
       ∙ rw (ne_eqb _ _ (λ z. a (ap (λ (u : PlacedToken). u.kind) q ∙ z)))
 
 pub text_end_le : (kind name end m : ℕ) → name ≤ m → end ≤ m → text_end kind name end ≤ m
@@ -175,13 +179,13 @@ text_end_le kind name end m a b = picked (λ (n : ℕ). n ≤ m) (eqb kind 6) (�
 
 -- a container's end, filled
 module _ (s tb : List ℕ) (w : Walk) (base kind start name : ℕ) where
-  pub fill_end_refused : (o : Out (Unit {0})) (x : Stop) → expected s w o ≡ Refused x → (tb' : List ℕ) → FilledE s tb w o base kind start name (Refused x) tb'
+  pub fill_end_refused : (o : Out (Unit {0})) (x : Stop) → expected s w o ≡ Err x → (tb' : List ℕ) → FilledE s tb w o base kind start name (Err x) tb'
   unfolding expected
   fill_end_refused (refuse r p) x e tb' = sym e
   fill_end_refused (got u l) x e tb' = let z : ◌≡◌ {A = ℕ} 0 1 = cc in absurd (omega arith)
 
-  pub fill_end_done : (o : Out (Unit {0})) (y : Walk) (tb' : List ℕ) → expected s w o ≡ Done y → tb' ≡ sets tb (5 * base) (record_words y base kind start name) → FilledE s tb w o base kind start name (Done y) tb'
+  pub fill_end_done : (o : Out (Unit {0})) (y : Walk) (tb' : List ℕ) → expected s w o ≡ Ok y → tb' ≡ sets tb (5 * base) (record_words y base kind start name) → FilledE s tb w o base kind start name (Ok y) tb'
   unfolding expected
   fill_end_done (refuse r p) y tb' e q = let z : ◌≡◌ {A = ℕ} 0 1 = cc in absurd (omega arith)
   fill_end_done (got u l) y tb' e q =
-      let f : y ≡ moved s w l = cc in (ap Done f, q ∙ ap (λ (v : Walk). sets tb (5 * base) (record_words v base kind start name)) f)
+      let f : y ≡ moved s w l = cc in (ap Ok f, q ∙ ap (λ (v : Walk). sets tb (5 * base) (record_words v base kind start name)) f)

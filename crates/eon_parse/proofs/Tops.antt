@@ -9,13 +9,13 @@ use lib.Dec.{eqb, ltb}
 use borrow.Author.Tests.{eq-eqb, ne_eqb, lt-ltb, le-ltb}
 use Rattle.eon_spec.specs.Utf8.{is_utf8}
 use Rattle.eon_spec.specs.Tree.{Span}
-use Rattle.eon_spec.specs.Refused.{Refusal}
-use Rattle.eon_spec.specs.Parse.{refusal, further}
+use Rattle.eon_spec.specs.declared.refusal.Refusal.{Refusal}
+use Rattle.eon_spec.specs.declared.refusal.Reason.TheVariants.{Surplus}
 use Rattle.eon_spec.specs.Records.{words}
 use Rattle.eon_token.specs.Placed.{placed_at}
 use Rattle.eon_token.specs.Place.{Spot, span, place_of, cursor_at, kind_at, next_span}
-use Rattle.eon_parse.specs.Walk.{Out, refuse, got, Records, run, end_of, stops, one, two, inside, header, below}
-use Rattle.eon_parse.specs.Top.{Shape, denied, asMap, asSingle, asSeveral, ended, several_by, list_by, map_by, top_at}
+use Rattle.eon_parse.specs.Walk.{refused_at, Out, refuse, got, Records, run, end_of, stops, one, two, inside, header, below}
+use Rattle.eon_parse.specs.Top.{further, Shape, denied, asMap, asSingle, asSeveral, ended, several_by, list_by, map_by, top_at}
 use Rattle.eon_parse.specs.Answer.{agrees, stop_of, place, Ready, emit, entered}
 use Rattle.eon_parse.specs.Tops.{further_by, surplus_of, whole_same, end_by, end_map, end_several, end_single, several_top, list_top, top_view}
 use Rattle.eon_token.specs.declared.token_kind.PlacedToken.{PlacedToken}
@@ -101,7 +101,7 @@ module _ (s tb : List ℕ) (b : Bool) where
   unfolding ended
   end_view l x = go (eqb (kind_at s l) 16)
     where
-      go : (z : Bool) → cond z (top_view tb b x) (Denied (surplus_of (placed_at s l.end))) ≡ top_view tb b (cond z x (denied (refusal 13 (next_span s l))))
+      go : (z : Bool) → cond z (top_view tb b x) (Denied (surplus_of (placed_at s l.end))) ≡ top_view tb b (cond z x (denied (refused_at Surplus (next_span s l))))
       go true = refl
       go false = refl
 

@@ -1,19 +1,17 @@
 -- What the calls answer, by what the definition gives.
-use Rattle.std.specs.Prelude.{◌≡◌, ℕ, suc, ◌+◌, ◌-◌, ◌*◌, ◌≤◌, List, [], ◌∷◌, Bool, true, false, cond, length, get_or, ltb, eqb}
+use Rattle.std.specs.Prelude.{◌≡◌, ℕ, suc, ◌+◌, ◌-◌, ◌*◌, ◌≤◌, List, [], ◌∷◌, Bool, true, false, cond, length, Result, Ok, Err, get_or, ltb, eqb}
 use Rattle.std.proofs.lemmas.List.Edits.{sets}
 use Rattle.eon_spec.specs.Tree.{Span}
-use Rattle.eon_spec.specs.Refused.{Refusal}
-use Rattle.eon_spec.specs.Parse.{refusal}
+use Rattle.eon_spec.specs.declared.refusal.Refusal.{Refusal}
+use Rattle.eon_spec.specs.declared.refusal.Reason.TheVariants.{MissingValue}
+use Rattle.eon_spec.specs.declared.token_kind.TokenKind.{TokenKind}
 use Rattle.eon_spec.specs.Records.{words}
 use Rattle.eon_token.specs.Place.{Spot, place_of, cursor_at, kind_at, next_span, span}
-use Rattle.eon_parse.specs.Walk.{Out, refuse, got, Records, Item, tail_r, suffix_end, expect, text_end, number_of}
+use Rattle.eon_parse.specs.Walk.{Out, refuse, got, Records, Item, tail_r, suffix_end, expect, text_end, refused_at, reason_of}
 use Rattle.eon_token.specs.declared.cursor.Cursor.{Cursor}
 use Rattle.eon_parse.specs.declared.Walk.{Walk}
 use Rattle.eon_parse.specs.declared.Stop.{Stop}
-use Rattle.eon_parse.specs.declared.Bare.{Bare}
-use Rattle.eon_parse.specs.declared.Bare.TheVariants.{Refused, Done}
-use Rattle.eon_parse.specs.declared.Got.{Got}
-use Rattle.eon_parse.specs.declared.Got.TheVariants.{Stopped, Value}
+use Rattle.eon_parse.specs.declared.Past.{Past}
 
 unfoldable pub holds : List ℕ → ℕ → ℕ → Bool
 holds t i w = cond (ltb i (length t)) (eqb (get_or t i 0) w) false
@@ -24,6 +22,10 @@ agrees t i (w ∷ ws) = cond (holds t i w) (agrees t (suc i) ws) false
 
 abbrev pub stop_of : Refusal → ℕ → Stop
 stop_of r e = record { refusal = r; consumed = e }
+
+-- a value's answer
+abbrev pub past : Walk → ℕ → Result Past Stop
+past w f = Ok (record { walk = w; from = f })
 
 abbrev pub place : Walk → Span
 place w = place_of w.cursor
@@ -43,13 +45,13 @@ unfoldable pub ran : List ℕ → List ℕ → Walk → Out Records → Walk
 ran s tb w (refuse r e) = w
 ran s tb w (got f l) = emit s tb w f l
 
-unfoldable pub bared : List ℕ → List ℕ → Walk → Out Records → Bare
-bared s tb w (refuse r e) = Refused (stop_of r e)
-bared s tb w (got f l) = Done (emit s tb w f l)
+unfoldable pub bared : List ℕ → List ℕ → Walk → Out Records → Result Walk Stop
+bared s tb w (refuse r e) = Err (stop_of r e)
+bared s tb w (got f l) = Ok (emit s tb w f l)
 
-unfoldable pub counted : List ℕ → List ℕ → Walk → Out Item → Got
-counted s tb w (refuse r e) = Stopped (stop_of r e)
-counted s tb w (got i l) = Value (emit s tb w i.body l) i.from
+unfoldable pub counted : List ℕ → List ℕ → Walk → Out Item → Result Past Stop
+counted s tb w (refuse r e) = Err (stop_of r e)
+counted s tb w (got i l) = past (emit s tb w i.body l) i.from
 
 abbrev pub set_cursor : Walk → Cursor → Walk
 set_cursor w c = record { cursor = c; count = w.count; same = w.same }
@@ -59,17 +61,17 @@ abbrev pub tailed : List ℕ → Walk → Records → Walk
 tailed tb w f = record { cursor = w.cursor; count = w.count + length f; same = cond w.same (agrees tb (5 * w.count) (words f)) false }
 
 -- a token that begins no value; n is the text's length
-abbrev pub no_value : ℕ → Cursor → Bare
+abbrev pub no_value : ℕ → Cursor → Result Walk Stop
 no_value n c =
-    cond (eqb c.peeked.kind 16) (Refused (stop_of (refusal 5 (span n n)) c.end))
-    (Refused (stop_of (refusal (number_of c.peeked.kind) (span c.peeked.start c.peeked.end)) c.peeked.end))
+    cond (eqb c.peeked.kind 16) (Err (stop_of (refused_at MissingValue (span n n)) c.end))
+    (Err (stop_of (refused_at (reason_of c.peeked.kind) (span c.peeked.start c.peeked.end)) c.peeked.end))
 
 abbrev pub moved : List ℕ → Walk → Span → Walk
 moved s w l = record { cursor = cursor_at s l; count = w.count; same = w.same }
 
-unfoldable pub expected : List ℕ → Walk → Out (Unit {0}) → Bare
-expected s w (refuse r e) = Refused (stop_of r e)
-expected s w (got u l) = Done (moved s w l)
+unfoldable pub expected : List ℕ → Walk → Out (Unit {0}) → Result Walk Stop
+expected s w (refuse r e) = Err (stop_of r e)
+expected s w (got u l) = Ok (moved s w l)
 
 abbrev pub entered : List ℕ → Walk → Span → Walk
 entered s w l = record { cursor = cursor_at s l; count = w.count + 1; same = w.same }
@@ -92,17 +94,17 @@ settled_at s tb w from =
     (emit s tb w (tail_r from (place w)) (place w))
 
 -- a container's end: the token that must come, and its record
-unfoldable pub sealed_at : List ℕ → List ℕ → Walk → Out (Unit {0}) → ℕ → ℕ → ℕ → ℕ → Bare
-sealed_at s tb w (refuse r e) base kind start name = Refused (stop_of r e)
-sealed_at s tb w (got u l) base kind start name = Done (compared_at (moved s w l) tb base kind start name)
+unfoldable pub sealed_at : List ℕ → List ℕ → Walk → Out (Unit {0}) → ℕ → ℕ → ℕ → ℕ → Result Walk Stop
+sealed_at s tb w (refuse r e) base kind start name = Err (stop_of r e)
+sealed_at s tb w (got u l) base kind start name = Ok (compared_at (moved s w l) tb base kind start name)
 
-unfoldable pub closed_at : List ℕ → List ℕ → Bare → ℕ → ℕ → ℕ → ℕ → ℕ → Bare
-closed_at s tb (Refused x) close base kind start name = Refused x
-closed_at s tb (Done w) close base kind start name = sealed_at s tb w (expect s close (place w)) base kind start name
+unfoldable pub closed_at : List ℕ → List ℕ → Result Walk Stop → TokenKind → ℕ → ℕ → ℕ → ℕ → Result Walk Stop
+closed_at s tb (Err x) close base kind start name = Err x
+closed_at s tb (Ok w) close base kind start name = sealed_at s tb w (expect s close (place w)) base kind start name
 
-abbrev pub ReadyBare : List ℕ → Bare → ℕ → Type 0
-ReadyBare s (Refused x) base = Unit {0}
-ReadyBare s (Done w) base = Ready s w.cursor w.count × (base ≤ w.count)
+abbrev pub ReadyBare : List ℕ → Result Walk Stop → ℕ → Type 0
+ReadyBare s (Err x) base = Unit {0}
+ReadyBare s (Ok w) base = Ready s w.cursor w.count × (base ≤ w.count)
 
 -- ---- filling: a walk after records, and the table with their words
 
@@ -119,13 +121,13 @@ abbrev pub FilledF : List ℕ → List ℕ → Walk → Out Records → Walk →
 FilledF s tb w (refuse r e) x tb' = Unit {0}
 FilledF s tb w (got f l) x tb' = (x ≡ passed s w f l) × (tb' ≡ stored tb w f)
 
-abbrev pub FilledB : List ℕ → List ℕ → Walk → Out Records → Bare → List ℕ → Type 0
-FilledB s tb w (refuse r e) x tb' = x ≡ Refused (stop_of r e)
-FilledB s tb w (got f l) x tb' = (x ≡ Done (passed s w f l)) × (tb' ≡ stored tb w f)
+abbrev pub FilledB : List ℕ → List ℕ → Walk → Out Records → Result Walk Stop → List ℕ → Type 0
+FilledB s tb w (refuse r e) x tb' = x ≡ Err (stop_of r e)
+FilledB s tb w (got f l) x tb' = (x ≡ Ok (passed s w f l)) × (tb' ≡ stored tb w f)
 
-abbrev pub FilledI : List ℕ → List ℕ → Walk → Out Item → Got → List ℕ → Type 0
-FilledI s tb w (refuse r e) x tb' = x ≡ Stopped (stop_of r e)
-FilledI s tb w (got i l) x tb' = (x ≡ Value (passed s w i.body l) i.from) × (tb' ≡ stored tb w i.body)
+abbrev pub FilledI : List ℕ → List ℕ → Walk → Out Item → Result Past Stop → List ℕ → Type 0
+FilledI s tb w (refuse r e) x tb' = x ≡ Err (stop_of r e)
+FilledI s tb w (got i l) x tb' = (x ≡ past (passed s w i.body l) i.from) × (tb' ≡ stored tb w i.body)
 
 abbrev pub settled_f : List ℕ → Span → ℕ → Out Records
 settled_f s l from =
@@ -134,11 +136,11 @@ settled_f s l from =
     (got (tail_r from l) l)
 
 -- a container's end
-abbrev pub FilledE : List ℕ → List ℕ → Walk → Out (Unit {0}) → ℕ → ℕ → ℕ → ℕ → Bare → List ℕ → Type 0
-FilledE s tb w (refuse r e) base kind start name x tb' = x ≡ Refused (stop_of r e)
+abbrev pub FilledE : List ℕ → List ℕ → Walk → Out (Unit {0}) → ℕ → ℕ → ℕ → ℕ → Result Walk Stop → List ℕ → Type 0
+FilledE s tb w (refuse r e) base kind start name x tb' = x ≡ Err (stop_of r e)
 FilledE s tb w (got u l) base kind start name x tb' =
-    (x ≡ Done (moved s w l)) × (tb' ≡ sets tb (5 * base) (record_words (moved s w l) base kind start name))
+    (x ≡ Ok (moved s w l)) × (tb' ≡ sets tb (5 * base) (record_words (moved s w l) base kind start name))
 
-abbrev pub FilledC : List ℕ → List ℕ → Bare → ℕ → ℕ → ℕ → ℕ → ℕ → Bare → List ℕ → Type 0
-FilledC s tb (Refused y) close base kind start name x tb' = x ≡ Refused y
-FilledC s tb (Done w) close base kind start name x tb' = FilledE s tb w (expect s close (place w)) base kind start name x tb'
+abbrev pub FilledC : List ℕ → List ℕ → Result Walk Stop → TokenKind → ℕ → ℕ → ℕ → ℕ → Result Walk Stop → List ℕ → Type 0
+FilledC s tb (Err y) close base kind start name x tb' = x ≡ Err y
+FilledC s tb (Ok w) close base kind start name x tb' = FilledE s tb w (expect s close (place w)) base kind start name x tb'

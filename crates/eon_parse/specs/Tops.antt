@@ -1,10 +1,10 @@
 -- What the calls on a whole text answer.
 use Rattle.std.specs.Prelude.{ℕ, List, [], ◌∷◌, Bool, false, cond, length, ltb, eqb}
-use Rattle.eon_spec.specs.Refused.{Refusal}
-use Rattle.eon_spec.specs.Parse.{refusal}
+use Rattle.eon_spec.specs.declared.refusal.Refusal.{Refusal}
+use Rattle.eon_spec.specs.declared.refusal.Reason.TheVariants.{Surplus}
 use Rattle.eon_spec.specs.Records.{words}
 use Rattle.eon_token.specs.Place.{span, cursor_at}
-use Rattle.eon_parse.specs.Walk.{Out, refuse, got, Records, run, end_of, stops, one, inside, below}
+use Rattle.eon_parse.specs.Walk.{refused_at, Out, refuse, got, Records, run, end_of, stops, one, inside, below}
 use Rattle.eon_parse.specs.Top.{Shape, denied, asMap, asSingle, asSeveral}
 use Rattle.eon_parse.specs.Answer.{agrees, stop_of, place, emit, entered}
 use Rattle.eon_token.specs.declared.token_kind.PlacedToken.{PlacedToken}
@@ -18,7 +18,7 @@ abbrev pub further_by : Stop → Stop → Refusal
 further_by a b = cond (ltb a.consumed b.consumed) b.refusal a.refusal
 
 abbrev pub surplus_of : PlacedToken → Refusal
-surplus_of t = refusal 13 (span t.start t.end)
+surplus_of t = refused_at Surplus (span t.start t.end)
 
 abbrev pub whole_same : List ℕ → Walk → ℕ → ℕ → Bool
 whole_same tb x kind len = cond x.same (agrees tb 0 (kind ∷ 0 ∷ len ∷ len ∷ x.count ∷ [])) false

@@ -4,16 +4,16 @@
 ghost use Rattle.std.specs.Prelude.{◌≡◌, [], ◌∷◌, true, ◌+◌, ◌-◌, ◌*◌, ◌<◌, ◌≤◌, length, set};
 ghost use Rattle.std.proofs.lemmas.List.Edits.{sets};
 ghost use Rattle.eon_spec.specs.Utf8.{is_utf8};
-ghost use Rattle.eon_spec.specs.Parse.{refusal};
+ghost use Rattle.eon_token.specs.Placed.{kind_of};
 ghost use Rattle.eon_token.specs.Place.{span, place_of, cursor_at, next_span};
-ghost use Rattle.eon_parse.specs.Walk.{closes, strings, number_of, run, end_of, wrong, expect, suffix_end, tail_r, stops, one, two, text_end, inside, bare_at, reader, below};
+ghost use Rattle.eon_parse.specs.Walk.{closes, strings, reason_of, refused_at, run, end_of, expect, suffix_end, tail_r, stops, one, two, text_end, inside, bare_at, reader, below};
 ghost use Rattle.eon_parse.specs.Answer.{holds, agrees, stop_of, Ready, place, ran, bared, counted, moved, expected, entered, record_words, compared_at, settled_at, closed_at, ReadyBare, set_cursor, tailed, no_value, passed_here, stored, FilledF, FilledB, FilledI, FilledC, settled_f};
 ghost use Rattle.eon_parse.specs.Top.{top_at, list_by, several_by, shape_whole};
-ghost use Rattle.eon_parse.specs.Call.{FilledW, FilledO, went_to, ended_by, Roomy, Written, count_of, placed_answer};
+ghost use Rattle.eon_parse.specs.Call.{FilledW, FilledO, went_to, ended_by, Roomy, Written, count_of};
 ghost use Rattle.eon_spec.specs.Calls.{after, outcome_of, then, read_text, read_call, read_finished};
 ghost use Rattle.eon_parse.specs.Tops.{further_by, surplus_of, whole_same, end_map, end_several, end_single, several_top, list_top, top_view};
 
-use eon_spec::{Answer, Refusal};
+use eon_spec::{Reason, Refusal, TokenKind};
 use eon_token::cursor::{Cursor, line_feed};
 use eon_token::token_kind::PlacedToken;
 use eon_utf8::well_formed_len;
@@ -33,18 +33,11 @@ pub struct Stop {
     pub consumed: usize,
 }
 
-// A value without its comments, or an inside: refused, or the walk behind it.
+// The walk behind a value, and where the value ends without its suffix comment.
 #[derive(Clone, Copy)]
-pub enum Bare {
-    Refused(Stop),
-    Done(Walk),
-}
-
-// A value: refused, or the walk behind it and where it ends without its suffix comment.
-#[derive(Clone, Copy)]
-pub enum Got {
-    Stopped(Stop),
-    Value(Walk, usize),
+pub struct Past {
+    pub walk: Walk,
+    pub from: usize,
 }
 
 // The kinds of tokens; 16 is the end of the text, 0 an invalid token.
@@ -65,8 +58,6 @@ const CLOSE_BRACE: u32 = 5;
 const OPEN_PAREN: u32 = 6;
 
 const CLOSE_PAREN: u32 = 7;
-
-const COLON: u32 = 8;
 
 const COMMA: u32 = 9;
 
@@ -110,73 +101,71 @@ fn is_string(k: u32) -> bool
     k == 15
 }
 
-fn number_of(k: u32) -> u32
-    ensures { result ≡ number_of k }
+// Why a token of this kind begins no value.
+#[tactic(auto, unfolding(crate::specs::Walk::reason_of))]
+fn reason_of(k: u32) -> Reason
+    ensures { result ≡ reason_of k }
 {
-    if k == STRAY {
-        return 3;
+    match k {
+        STRAY => Reason::Stray,
+        CLOSE_LIST => Reason::UnbalancedList,
+        CLOSE_BRACE => Reason::UnbalancedBrace,
+        OPEN_PAREN => Reason::Nameless,
+        CLOSE_PAREN => Reason::UnbalancedParen,
+        _ => Reason::NoValue,
     }
-    if k == CLOSE_LIST {
-        return 6;
+}
+
+// The kind with a number.
+fn kind_of(k: u32) -> TokenKind
+    ensures { result ≡ kind_of k }
+{
+    match k {
+        1 => TokenKind::Comment,
+        2 => TokenKind::OpenList,
+        3 => TokenKind::CloseList,
+        4 => TokenKind::OpenBrace,
+        5 => TokenKind::CloseBrace,
+        6 => TokenKind::OpenParen,
+        7 => TokenKind::CloseParen,
+        8 => TokenKind::Colon,
+        9 => TokenKind::Comma,
+        10 => TokenKind::Identifier,
+        11 => TokenKind::Number,
+        12 => TokenKind::DoubleQuotedString,
+        13 => TokenKind::SingleQuotedString,
+        14 => TokenKind::MultilineBasicString,
+        15 => TokenKind::MultilineLiteralString,
+        _ => TokenKind::Invalid,
     }
-    if k == CLOSE_BRACE {
-        return 7;
-    }
-    if k == OPEN_PAREN {
-        return 9;
-    }
-    if k == CLOSE_PAREN {
-        return 8;
-    }
-    if k == COLON {
-        return 10;
-    }
-    if k == COMMA {
-        return 10;
-    }
-    0
 }
 
 // ---- refusals
 
-// A refusal at a place, with the expected and the found kind.
-fn wrong(number: u32, start: usize, end: usize, expected: u32, found: u32) -> Refusal
-    ensures { result ≡ wrong number (span start end) expected found }
-{
-    Refusal {
-        number: number,
-        start: start,
-        end: end,
-        expected: expected,
-        found: found,
-    }
-}
-
-// Only 11 and 12 name kinds.
-fn refusal(number: u32, start: usize, end: usize) -> Refusal
-    ensures { result ≡ refusal number (span start end) }
-{
-    wrong(number, start, end, 0, 0)
-}
-
 // Refused at a token, which counts as consumed.
-fn refuse_at(number: u32, t: PlacedToken) -> Stop
-    ensures { result ≡ stop_of (refusal number (span t.start t.end)) t.end }
+fn refuse_at(reason: Reason, t: PlacedToken) -> Stop
+    ensures { result ≡ stop_of (refused_at reason (span t.start t.end)) t.end }
 {
-    let r = refusal(number, t.start, t.end);
     Stop {
-        refusal: r,
+        refusal: Refusal {
+            reason,
+            start: t.start,
+            end: t.end,
+        },
         consumed: t.end,
     }
 }
 
-// The depth is used up: 4, at the previous token.
-fn too_deep(c: Cursor) -> Stop
-    ensures { result ≡ stop_of (refusal 4 (place_of c)) c.end }
+// Refused at the previous token.
+fn refuse_before(reason: Reason, c: Cursor) -> Stop
+    ensures { result ≡ stop_of (refused_at reason (place_of c)) c.end }
 {
-    let r = refusal(4, c.start, c.end);
     Stop {
-        refusal: r,
+        refusal: Refusal {
+            reason,
+            start: c.start,
+            end: c.end,
+        },
         consumed: c.end,
     }
 }
@@ -403,52 +392,45 @@ fn settle(text: &[u8], table: &[u32], w: Walk, from: usize) -> Walk
     tail(table, w, from)
 }
 
-// The next token must be of a kind (consume_token): 12 if the text ends, 3 if the token is invalid, 11 if it is another.
-fn must(text: &[u8], w: Walk, k: u32) -> Bare
+// The next token must be of a kind (consume_token).
+fn must(text: &[u8], w: Walk, k: TokenKind) -> Result<Walk, Stop>
     requires { Ready text.now w.cursor w.count }
     ensures { result ≡ expected text.now w (expect text.now k (place w)) }
 {
     let c = w.cursor;
     let t = c.peek();
     if t.kind == END {
-        let r = wrong(12, c.start, c.end, k, 0);
-        return Bare::Refused(Stop {
-            refusal: r,
-            consumed: c.end,
-        });
+        return Err(refuse_before(Reason::CutOff { expected: k }, c));
     }
     if t.kind == STRAY {
-        return Bare::Refused(refuse_at(3, t));
+        return Err(refuse_at(Reason::Stray, t));
     }
-    if t.kind == k {
-        return Bare::Done(w.skip(text));
+    if t.kind == u32::from(k) {
+        return Ok(w.skip(text));
     }
-    let r = wrong(11, t.start, t.end, k, t.kind);
-    Bare::Refused(Stop {
-        refusal: r,
-        consumed: t.end,
-    })
+    let found = kind_of(t.kind);
+    Err(refuse_at(Reason::Mismatch { expected: k, found }, t))
 }
 
 // A container's end: the token that closes it, and then its record.
 fn close(
     text: &[u8],
     table: &[u32],
-    inner: Bare,
-    k: u32,
+    inner: Result<Walk, Stop>,
+    k: TokenKind,
     base: usize,
     kind: usize,
     start: usize,
     name: usize,
-) -> Bare
+) -> Result<Walk, Stop>
     requires { (ReadyBare text.now inner base) × (base ≤ 70000) }
     ensures { result ≡ closed_at text.now table.now inner k base kind start name }
 {
     match inner {
-        Bare::Refused(x) => Bare::Refused(x),
-        Bare::Done(w) => match must(text, w, k) {
-            Bare::Refused(x) => Bare::Refused(x),
-            Bare::Done(y) => Bare::Done(y.compared(table, base, kind, start, name)),
+        Err(x) => Err(x),
+        Ok(w) => match must(text, w, k) {
+            Err(x) => Err(x),
+            Ok(y) => Ok(y.compared(table, base, kind, start, name)),
         },
     }
 }
@@ -461,49 +443,51 @@ fn less(depth: usize) -> usize
 }
 
 // The refusal of a token that begins no value.
-fn refused(text: &[u8], w: Walk) -> Bare
+fn refused(text: &[u8], w: Walk) -> Result<Walk, Stop>
     ensures { result ≡ no_value (length text.now) w.cursor }
 {
     let c = w.cursor;
     let t = c.peek();
     if t.kind == END {
-        let r = refusal(5, text.len(), text.len());
-        return Bare::Refused(Stop {
-            refusal: r,
+        return Err(Stop {
+            refusal: Refusal::new(Reason::MissingValue, text.len()),
             consumed: c.end,
         });
     }
-    let n = number_of(t.kind);
-    Bare::Refused(refuse_at(n, t))
+    let reason = reason_of(t.kind);
+    Err(refuse_at(reason, t))
 }
 
 // ---- the counting pass
 
 // A value with its comments (parse_token_tree). Its suffix comment is no record yet: a comma may replace it.
 #[cycle(counting)]
-fn value(text: &[u8], table: &[u32], w: Walk, depth: usize) -> Got
+fn value(text: &[u8], table: &[u32], w: Walk, depth: usize) -> Result<Past, Stop>
     requires { Ready text.now w.cursor w.count }
     ensures { result ≡ counted text.now table.now w (reader depth text.now (place w)) }
 {
     if depth == 0 {
         let c = w.cursor;
-        return Got::Stopped(too_deep(c));
+        return Err(refuse_before(Reason::TooDeep, c));
     }
     let d = comments(text, table, w, 7);
     match core(text, table, d, depth - 1) {
-        Bare::Refused(x) => Got::Stopped(x),
-        Bare::Done(x) => {
+        Err(x) => Err(x),
+        Ok(x) => {
             let c = x.cursor;
             let from = c.end;
             let e = suffix_end(text, c);
-            Got::Value(x.at(e), from)
+            Ok(Past {
+                walk: x.at(e),
+                from,
+            })
         }
     }
 }
 
 // A value behind its prefix comments.
 #[cycle(counting)]
-fn core(text: &[u8], table: &[u32], w: Walk, depth: usize) -> Bare
+fn core(text: &[u8], table: &[u32], w: Walk, depth: usize) -> Result<Walk, Stop>
     requires { Ready text.now w.cursor w.count }
     ensures { result ≡ bared text.now table.now w (bare_at text.now (below depth text.now) (place w)) }
 {
@@ -511,21 +495,21 @@ fn core(text: &[u8], table: &[u32], w: Walk, depth: usize) -> Bare
     let start = w.start();
     if k == IDENTIFIER {
         let d = w.enter(text);
-        return Bare::Done(d.compared(table, w.count, 1, start, 0));
+        return Ok(d.compared(table, w.count, 1, start, 0));
     }
     if k == NUMBER {
         let d = w.enter(text);
-        return Bare::Done(d.compared(table, w.count, 2, start, 0));
+        return Ok(d.compared(table, w.count, 2, start, 0));
     }
     if k == OPEN_LIST {
         let d = w.enter(text);
         let i = list(text, table, d, depth);
-        return close(text, table, i, CLOSE_LIST, w.count, 4, start, 0);
+        return close(text, table, i, TokenKind::CloseList, w.count, 4, start, 0);
     }
     if k == OPEN_BRACE {
         let d = w.enter(text);
         let i = map(text, table, d, depth);
-        return close(text, table, i, CLOSE_BRACE, w.count, 5, start, 0);
+        return close(text, table, i, TokenKind::CloseBrace, w.count, 5, start, 0);
     }
     if is_string(k) {
         let d = w.enter(text);
@@ -533,16 +517,25 @@ fn core(text: &[u8], table: &[u32], w: Walk, depth: usize) -> Bare
             let c = d.cursor;
             let e = d.skip(text);
             let i = list(text, table, e, depth);
-            return close(text, table, i, CLOSE_PAREN, w.count, 6, start, c.end);
+            return close(
+                text,
+                table,
+                i,
+                TokenKind::CloseParen,
+                w.count,
+                6,
+                start,
+                c.end,
+            );
         }
-        return Bare::Done(d.compared(table, w.count, 3, start, 0));
+        return Ok(d.compared(table, w.count, 3, start, 0));
     }
     refused(text, w)
 }
 
 // The inside of a list or a variant (parse_list_contents): values up to a closing token, and the comments before it.
 #[cycle(counting)]
-fn list(text: &[u8], table: &[u32], w: Walk, depth: usize) -> Bare
+fn list(text: &[u8], table: &[u32], w: Walk, depth: usize) -> Result<Walk, Stop>
     requires { Ready text.now w.cursor w.count }
     ensures { result ≡ bared text.now table.now w (inside text.now (one text.now (below depth text.now)) (place w)) }
 {
@@ -553,20 +546,20 @@ fn list(text: &[u8], table: &[u32], w: Walk, depth: usize) -> Bare
         }
         let e = comments(text, table, d, 7);
         match value(text, table, e, less(depth)) {
-            Got::Stopped(x) => {
-                return Bare::Refused(x);
+            Err(x) => {
+                return Err(x);
             }
-            Got::Value(x, from) => {
-                d = settle(text, table, x, from);
+            Ok(x) => {
+                d = settle(text, table, x.walk, x.from);
             }
         }
     }
-    Bare::Done(comments(text, table, d, 9))
+    Ok(comments(text, table, d, 9))
 }
 
 // The inside of a map (parse_map_contents): keys and values.
 #[cycle(counting)]
-fn map(text: &[u8], table: &[u32], w: Walk, depth: usize) -> Bare
+fn map(text: &[u8], table: &[u32], w: Walk, depth: usize) -> Result<Walk, Stop>
     requires { Ready text.now w.cursor w.count }
     ensures { result ≡ bared text.now table.now w (inside text.now (two text.now (below depth text.now)) (place w)) }
 {
@@ -577,22 +570,22 @@ fn map(text: &[u8], table: &[u32], w: Walk, depth: usize) -> Bare
         }
         let e = comments(text, table, d, 7);
         match value(text, table, e, less(depth)) {
-            Got::Stopped(x) => {
-                return Bare::Refused(x);
+            Err(x) => {
+                return Err(x);
             }
-            Got::Value(x, from) => {
-                let y = tail(table, x, from);
-                match must(text, y, COLON) {
-                    Bare::Refused(n) => {
-                        return Bare::Refused(n);
+            Ok(x) => {
+                let y = tail(table, x.walk, x.from);
+                match must(text, y, TokenKind::Colon) {
+                    Err(n) => {
+                        return Err(n);
                     }
-                    Bare::Done(z) => {
+                    Ok(z) => {
                         match value(text, table, z, less(depth)) {
-                            Got::Stopped(n) => {
-                                return Bare::Refused(n);
+                            Err(n) => {
+                                return Err(n);
                             }
-                            Got::Value(v, since) => {
-                                d = settle(text, table, v, since);
+                            Ok(v) => {
+                                d = settle(text, table, v.walk, v.from);
                             }
                         }
                     }
@@ -600,7 +593,7 @@ fn map(text: &[u8], table: &[u32], w: Walk, depth: usize) -> Bare
             }
         }
     }
-    Bare::Done(comments(text, table, d, 9))
+    Ok(comments(text, table, d, 9))
 }
 
 // ---- the filling pass: the same walk, that stores. A store past the table's end is none.
@@ -703,51 +696,54 @@ fn fill_settle(text: &[u8], table: &mut [u32], w: Walk, from: usize) -> Walk
 fn fill_close(
     text: &[u8],
     table: &mut [u32],
-    inner: Bare,
-    k: u32,
+    inner: Result<Walk, Stop>,
+    k: TokenKind,
     base: usize,
     kind: usize,
     start: usize,
     name: usize,
-) -> Bare
+) -> Result<Walk, Stop>
     requires { (ReadyBare text.now inner base) × (base ≤ 70000) × (kind ≤ 9) × (start ≤ 70000) × (name ≤ 70000) }
     ensures { FilledC text.now table.old inner k base kind start name result table.new }
 {
     match inner {
-        Bare::Refused(x) => Bare::Refused(x),
-        Bare::Done(w) => match must(text, w, k) {
-            Bare::Refused(x) => Bare::Refused(x),
-            Bare::Done(y) => {
+        Err(x) => Err(x),
+        Ok(w) => match must(text, w, k) {
+            Err(x) => Err(x),
+            Ok(y) => {
                 y.put(table, base, kind, start, name);
-                Bare::Done(y)
+                Ok(y)
             }
         },
     }
 }
 
 #[cycle(filling)]
-fn fill_value(text: &[u8], table: &mut [u32], w: Walk, depth: usize) -> Got
+fn fill_value(text: &[u8], table: &mut [u32], w: Walk, depth: usize) -> Result<Past, Stop>
     requires { Ready text.now w.cursor w.count }
     ensures { FilledI text.now table.old w (reader depth text.now (place w)) result table.new }
 {
     if depth == 0 {
         let c = w.cursor;
-        return Got::Stopped(too_deep(c));
+        return Err(refuse_before(Reason::TooDeep, c));
     }
     let d = fill_comments(text, table, w, 7);
     match fill_core(text, table, d, depth - 1) {
-        Bare::Refused(x) => Got::Stopped(x),
-        Bare::Done(x) => {
+        Err(x) => Err(x),
+        Ok(x) => {
             let c = x.cursor;
             let from = c.end;
             let e = suffix_end(text, c);
-            Got::Value(x.at(e), from)
+            Ok(Past {
+                walk: x.at(e),
+                from,
+            })
         }
     }
 }
 
 #[cycle(filling)]
-fn fill_core(text: &[u8], table: &mut [u32], w: Walk, depth: usize) -> Bare
+fn fill_core(text: &[u8], table: &mut [u32], w: Walk, depth: usize) -> Result<Walk, Stop>
     requires { Ready text.now w.cursor w.count }
     ensures { FilledB text.now table.old w (bare_at text.now (below depth text.now) (place w)) result table.new }
 {
@@ -756,22 +752,22 @@ fn fill_core(text: &[u8], table: &mut [u32], w: Walk, depth: usize) -> Bare
     if k == IDENTIFIER {
         let d = w.enter(text);
         d.put(table, w.count, 1, start, 0);
-        return Bare::Done(d);
+        return Ok(d);
     }
     if k == NUMBER {
         let d = w.enter(text);
         d.put(table, w.count, 2, start, 0);
-        return Bare::Done(d);
+        return Ok(d);
     }
     if k == OPEN_LIST {
         let d = w.enter(text);
         let i = fill_list(text, table, d, depth);
-        return fill_close(text, table, i, CLOSE_LIST, w.count, 4, start, 0);
+        return fill_close(text, table, i, TokenKind::CloseList, w.count, 4, start, 0);
     }
     if k == OPEN_BRACE {
         let d = w.enter(text);
         let i = fill_map(text, table, d, depth);
-        return fill_close(text, table, i, CLOSE_BRACE, w.count, 5, start, 0);
+        return fill_close(text, table, i, TokenKind::CloseBrace, w.count, 5, start, 0);
     }
     if is_string(k) {
         let d = w.enter(text);
@@ -779,16 +775,25 @@ fn fill_core(text: &[u8], table: &mut [u32], w: Walk, depth: usize) -> Bare
             let c = d.cursor;
             let e = d.skip(text);
             let i = fill_list(text, table, e, depth);
-            return fill_close(text, table, i, CLOSE_PAREN, w.count, 6, start, c.end);
+            return fill_close(
+                text,
+                table,
+                i,
+                TokenKind::CloseParen,
+                w.count,
+                6,
+                start,
+                c.end,
+            );
         }
         d.put(table, w.count, 3, start, 0);
-        return Bare::Done(d);
+        return Ok(d);
     }
     refused(text, w)
 }
 
 #[cycle(filling)]
-fn fill_list(text: &[u8], table: &mut [u32], w: Walk, depth: usize) -> Bare
+fn fill_list(text: &[u8], table: &mut [u32], w: Walk, depth: usize) -> Result<Walk, Stop>
     requires { Ready text.now w.cursor w.count }
     ensures { FilledB text.now table.old w (inside text.now (one text.now (below depth text.now)) (place w)) result table.new }
 {
@@ -799,20 +804,20 @@ fn fill_list(text: &[u8], table: &mut [u32], w: Walk, depth: usize) -> Bare
         }
         let e = fill_comments(text, table, d, 7);
         match fill_value(text, table, e, less(depth)) {
-            Got::Stopped(x) => {
-                return Bare::Refused(x);
+            Err(x) => {
+                return Err(x);
             }
-            Got::Value(x, from) => {
-                d = fill_settle(text, table, x, from);
+            Ok(x) => {
+                d = fill_settle(text, table, x.walk, x.from);
             }
         }
     }
     let f = fill_comments(text, table, d, 9);
-    Bare::Done(f)
+    Ok(f)
 }
 
 #[cycle(filling)]
-fn fill_map(text: &[u8], table: &mut [u32], w: Walk, depth: usize) -> Bare
+fn fill_map(text: &[u8], table: &mut [u32], w: Walk, depth: usize) -> Result<Walk, Stop>
     requires { Ready text.now w.cursor w.count }
     ensures { FilledB text.now table.old w (inside text.now (two text.now (below depth text.now)) (place w)) result table.new }
 {
@@ -823,22 +828,22 @@ fn fill_map(text: &[u8], table: &mut [u32], w: Walk, depth: usize) -> Bare
         }
         let e = fill_comments(text, table, d, 7);
         match fill_value(text, table, e, less(depth)) {
-            Got::Stopped(x) => {
-                return Bare::Refused(x);
+            Err(x) => {
+                return Err(x);
             }
-            Got::Value(x, from) => {
-                let y = fill_tail(table, x, from);
-                match must(text, y, COLON) {
-                    Bare::Refused(n) => {
-                        return Bare::Refused(n);
+            Ok(x) => {
+                let y = fill_tail(table, x.walk, x.from);
+                match must(text, y, TokenKind::Colon) {
+                    Err(n) => {
+                        return Err(n);
                     }
-                    Bare::Done(z) => {
+                    Ok(z) => {
                         match fill_value(text, table, z, less(depth)) {
-                            Got::Stopped(n) => {
-                                return Bare::Refused(n);
+                            Err(n) => {
+                                return Err(n);
                             }
-                            Got::Value(v, since) => {
-                                d = fill_settle(text, table, v, since);
+                            Ok(v) => {
+                                d = fill_settle(text, table, v.walk, v.from);
                             }
                         }
                     }
@@ -847,7 +852,7 @@ fn fill_map(text: &[u8], table: &mut [u32], w: Walk, depth: usize) -> Bare
         }
     }
     let f = fill_comments(text, table, d, 9);
-    Bare::Done(f)
+    Ok(f)
 }
 
 // ---- a whole text
@@ -877,7 +882,11 @@ fn further_of(a: Stop, b: Stop) -> Refusal
 fn surplus(t: PlacedToken) -> Refusal
     ensures { result ≡ surplus_of t }
 {
-    refusal(13, t.start, t.end)
+    Refusal {
+        reason: Reason::Surplus,
+        start: t.start,
+        end: t.end,
+    }
 }
 
 // Does the table begin with the record of the whole text?
@@ -938,8 +947,8 @@ fn several(text: &[u8], table: &[u32], a: Stop, w: Walk) -> Top
     ensures { result ≡ several_top text.now table.now w a (inside text.now (one text.now (below 128 text.now)) (place w)) }
 {
     match list(text, table, w, DEPTH) {
-        Bare::Refused(b) => Top::Denied(further_of(a, b)),
-        Bare::Done(x) => end_several(text, table, x),
+        Err(b) => Top::Denied(further_of(a, b)),
+        Ok(x) => end_several(text, table, x),
     }
 }
 
@@ -950,9 +959,9 @@ fn listed(text: &[u8], table: &[u32], a: Stop, w: Walk) -> Top
 {
     let e = comments(text, table, w, 7);
     match value(text, table, e, DEPTH - 1) {
-        Got::Stopped(b) => Top::Denied(further_of(a, b)),
-        Got::Value(x, from) => {
-            let y = settle(text, table, x, from);
+        Err(b) => Top::Denied(further_of(a, b)),
+        Ok(x) => {
+            let y = settle(text, table, x.walk, x.from);
             if ends(text, y) {
                 return end_single(text, y);
             }
@@ -979,8 +988,8 @@ fn scan(text: &[u8], table: &[u32], compare: bool) -> Top
         same: compare,
     };
     match map(text, table, m, DEPTH) {
-        Bare::Done(x) => end_map(text, table, x),
-        Bare::Refused(a) => {
+        Ok(x) => end_map(text, table, x),
+        Err(a) => {
             let w = Walk {
                 cursor: c,
                 count: 0,
@@ -995,7 +1004,7 @@ fn scan(text: &[u8], table: &[u32], compare: bool) -> Top
 
 // Each hands back its walk, so that one walk is enough where the table is the caller's own.
 
-fn fill_top_map(text: &[u8], table: &mut [u32]) -> Bare
+fn fill_top_map(text: &[u8], table: &mut [u32]) -> Result<Walk, Stop>
     requires { (is_utf8 text.now ≡ true) × (length text.now ≤ 65535) }
     ensures table { FilledW (length text.now) 5 table.old (inside text.now (two text.now (below 128 text.now)) (span 0 0)) table.new }
     ensures walk { result ≡ went_to text.now 1 (inside text.now (two text.now (below 128 text.now)) (span 0 0)) }
@@ -1007,15 +1016,15 @@ fn fill_top_map(text: &[u8], table: &mut [u32]) -> Bare
         same: false,
     };
     match fill_map(text, table, m, DEPTH) {
-        Bare::Done(x) => {
+        Ok(x) => {
             put_record(table, 0, 5, 0, text.len(), text.len(), x.count);
-            Bare::Done(x)
+            Ok(x)
         }
-        Bare::Refused(a) => Bare::Refused(a),
+        Err(a) => Err(a),
     }
 }
 
-fn fill_top_list(text: &[u8], table: &mut [u32]) -> Bare
+fn fill_top_list(text: &[u8], table: &mut [u32]) -> Result<Walk, Stop>
     requires { (is_utf8 text.now ≡ true) × (length text.now ≤ 65535) }
     ensures table { FilledW (length text.now) 4 table.old (inside text.now (one text.now (below 128 text.now)) (span 0 0)) table.new }
     ensures walk { result ≡ went_to text.now 1 (inside text.now (one text.now (below 128 text.now)) (span 0 0)) }
@@ -1027,15 +1036,15 @@ fn fill_top_list(text: &[u8], table: &mut [u32]) -> Bare
         same: false,
     };
     match fill_list(text, table, m, DEPTH) {
-        Bare::Done(x) => {
+        Ok(x) => {
             put_record(table, 0, 4, 0, text.len(), text.len(), x.count);
-            Bare::Done(x)
+            Ok(x)
         }
-        Bare::Refused(a) => Bare::Refused(a),
+        Err(a) => Err(a),
     }
 }
 
-fn fill_top_value(text: &[u8], table: &mut [u32]) -> Bare
+fn fill_top_value(text: &[u8], table: &mut [u32]) -> Result<Walk, Stop>
     requires { (is_utf8 text.now ≡ true) × (length text.now ≤ 65535) }
     ensures table { FilledO table.old (one text.now (below 128 text.now) (span 0 0)) table.new }
     ensures walk { result ≡ went_to text.now 0 (one text.now (below 128 text.now) (span 0 0)) }
@@ -1048,42 +1057,42 @@ fn fill_top_value(text: &[u8], table: &mut [u32]) -> Bare
     };
     let e = fill_comments(text, table, w, 7);
     match fill_value(text, table, e, DEPTH - 1) {
-        Got::Value(x, from) => Bare::Done(fill_settle(text, table, x, from)),
-        Got::Stopped(b) => Bare::Refused(b),
+        Ok(x) => Ok(fill_settle(text, table, x.walk, x.from)),
+        Err(b) => Err(b),
     }
 }
 
 // ---- a whole text in one walk, into a table with room for any text of its length
 
 // The number of records, if nothing follows.
-fn ended(x: Walk) -> Answer
+fn ended(x: Walk) -> Result<usize, Refusal>
     ensures { result ≡ ended_by x.cursor.peeked x.count }
 {
     let c = x.cursor;
     let t = c.peek();
     if t.kind == END {
-        return Answer::Done(x.count);
+        return Ok(x.count);
     }
-    Answer::Refused(surplus(t))
+    Err(surplus(t))
 }
 
-fn once_several(text: &[u8], table: &mut [u32], a: Stop) -> Answer
+fn once_several(text: &[u8], table: &mut [u32], a: Stop) -> Result<usize, Refusal>
     requires { Roomy text.now table.old }
     ensures { Written (shape_whole (several_by text.now a.refusal a.consumed (inside text.now (one text.now (below 128 text.now)) (span 0 0)))) result table.new }
 {
     match fill_top_list(text, table) {
-        Bare::Refused(b) => Answer::Refused(further_of(a, b)),
-        Bare::Done(x) => ended(x),
+        Err(b) => Err(further_of(a, b)),
+        Ok(x) => ended(x),
     }
 }
 
-fn once_listed(text: &[u8], table: &mut [u32], a: Stop) -> Answer
+fn once_listed(text: &[u8], table: &mut [u32], a: Stop) -> Result<usize, Refusal>
     requires { Roomy text.now table.old }
     ensures { Written (shape_whole (list_by text.now a.refusal a.consumed (one text.now (below 128 text.now) (span 0 0)))) result table.new }
 {
     match fill_top_value(text, table) {
-        Bare::Refused(b) => Answer::Refused(further_of(a, b)),
-        Bare::Done(y) => {
+        Err(b) => Err(further_of(a, b)),
+        Ok(y) => {
             if ends(text, y) {
                 let c = y.cursor;
                 let d = ahead(text, c);
@@ -1094,80 +1103,73 @@ fn once_listed(text: &[u8], table: &mut [u32], a: Stop) -> Answer
     }
 }
 
-fn once(text: &[u8], table: &mut [u32]) -> Answer
+fn once(text: &[u8], table: &mut [u32]) -> Result<usize, Refusal>
     requires { Roomy text.now table.old }
     ensures { Written (shape_whole (top_at text.now)) result table.new }
 {
     match fill_top_map(text, table) {
-        Bare::Done(x) => ended(x),
-        Bare::Refused(a) => once_listed(text, table, a),
+        Ok(x) => ended(x),
+        Err(a) => once_listed(text, table, a),
     }
 }
 
 // ---- the calls, on checked text
 
-// Refused at a place of no length.
-fn at_place(n: u32, place: usize) -> Answer
-    ensures { result ≡ placed_answer n place }
-{
-    Answer::Refused(refusal(n, place, place))
-}
-
 // Reads a checked text into the table.
-fn read_checked(text: &[u8], table: &mut [u32]) -> Answer
+fn read_checked(text: &[u8], table: &mut [u32]) -> Result<usize, Refusal>
     requires { (is_utf8 text.now ≡ true) × (length text.now ≤ 65535) }
     ensures { after (outcome_of result) table.new ≡ read_call text.now table.old }
 {
     match scan(text, table, false) {
-        Top::Denied(r) => Answer::Refused(r),
+        Top::Denied(r) => Err(r),
         Top::Map(n, same) => {
             if 5 * n <= table.len() {
-                fill_top_map(text, table);
-                return Answer::Done(n);
+                let _ = fill_top_map(text, table);
+                return Ok(n);
             }
-            at_place(14, 0)
+            Err(Refusal::new(Reason::NoSpace, 0))
         }
         Top::Single(n, same) => {
             if 5 * n <= table.len() {
-                fill_top_value(text, table);
-                return Answer::Done(n);
+                let _ = fill_top_value(text, table);
+                return Ok(n);
             }
-            at_place(14, 0)
+            Err(Refusal::new(Reason::NoSpace, 0))
         }
         Top::Several(count, same) => {
             if 5 * count <= table.len() {
-                fill_top_list(text, table);
-                return Answer::Done(count);
+                let _ = fill_top_list(text, table);
+                return Ok(count);
             }
-            at_place(14, 0)
+            Err(Refusal::new(Reason::NoSpace, 0))
         }
     }
 }
 
 // Is the table a checked text's? Then how many records it has.
-fn finished_checked(text: &[u8], table: &[u32]) -> Answer
+fn finished_checked(text: &[u8], table: &[u32]) -> Result<usize, Refusal>
     requires { (is_utf8 text.now ≡ true) × (length text.now ≤ 65535) }
     ensures { outcome_of result ≡ then (read_finished text.now table.now) count_of }
 {
     match scan(text, table, true) {
-        Top::Denied(r) => Answer::Refused(r),
+        Top::Denied(r) => Err(r),
         Top::Map(n, same) => {
             if same {
-                return Answer::Done(n);
+                return Ok(n);
             }
-            at_place(15, 0)
+            Err(Refusal::new(Reason::Stale, 0))
         }
         Top::Single(n, same) => {
             if same {
-                return Answer::Done(n);
+                return Ok(n);
             }
-            at_place(15, 0)
+            Err(Refusal::new(Reason::Stale, 0))
         }
         Top::Several(n, same) => {
             if same {
-                return Answer::Done(n);
+                return Ok(n);
             }
-            at_place(15, 0)
+            Err(Refusal::new(Reason::Stale, 0))
         }
     }
 }
@@ -1175,45 +1177,45 @@ fn finished_checked(text: &[u8], table: &[u32]) -> Answer
 // ---- the calls, on any text
 
 // Reads a text into the table.
-pub fn read(text: &[u8], table: &mut [u32]) -> Answer
+pub fn read(text: &[u8], table: &mut [u32]) -> Result<usize, Refusal>
     ensures { after (outcome_of result) table.new ≡ read_call text.now table.old }
 {
     if text.len() > 65535 {
-        return at_place(1, 65535);
+        return Err(Refusal::new(Reason::Overlong, 65535));
     }
     let n = well_formed_len(text);
     if n == text.len() {
         return read_checked(text, table);
     }
-    at_place(2, n)
+    Err(Refusal::new(Reason::Garbled, n))
 }
 
 // Is the table the text's? Then how many records it has.
-pub fn finished(text: &[u8], table: &[u32]) -> Answer
+pub fn finished(text: &[u8], table: &[u32]) -> Result<usize, Refusal>
     ensures { outcome_of result ≡ then (read_finished text.now table.now) count_of }
 {
     if text.len() > 65535 {
-        return at_place(1, 65535);
+        return Err(Refusal::new(Reason::Overlong, 65535));
     }
     let n = well_formed_len(text);
     if n == text.len() {
         return finished_checked(text, table);
     }
-    at_place(2, n)
+    Err(Refusal::new(Reason::Garbled, n))
 }
 
 // Reads a text into a table that has room for any text of its length, in one walk. A refusal leaves anything there.
-pub fn read_once(text: &[u8], table: &mut [u32]) -> Answer
+pub fn read_once(text: &[u8], table: &mut [u32]) -> Result<usize, Refusal>
     requires { length text.now ≤ 65535 → 5 * (length text.now + 1) ≤ length table.old }
     ensures count { outcome_of result ≡ then (read_text text.now) count_of }
     ensures table { read_finished text.now table.new ≡ read_text text.now }
 {
     if text.len() > 65535 {
-        return at_place(1, 65535);
+        return Err(Refusal::new(Reason::Overlong, 65535));
     }
     let n = well_formed_len(text);
     if n == text.len() {
         return once(text, table);
     }
-    at_place(2, n)
+    Err(Refusal::new(Reason::Garbled, n))
 }

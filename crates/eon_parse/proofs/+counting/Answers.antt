@@ -1,3 +1,5 @@
+use Rattle.eon_spec.specs.declared.token_kind.TokenKind.TheVariants.{CloseList, CloseBrace, CloseParen, Colon}
+use Rattle.eon_parse.specs.declared.Stop.{Stop}
 use mathlib.Core.Path.{◌≡◌, sym, ap, ◌∙◌}
 use mathlib.Core.Bool.{true, false}
 use mathlib.Core.List.{[], ◌∷◌}
@@ -6,12 +8,12 @@ use native.Mathlib.Omega.{arith}
 use lib.ListN.{length}
 use Rattle.eon_spec.specs.Records.{leaf}
 use Rattle.eon_token.specs.Place.{Spot, kind_at, next_span}
-use Rattle.eon_parse.specs.declared.Got.TheVariants.{Stopped}
+use Rattle.std.specs.Prelude.{Err}
 use Rattle.eon_parse.specs.Walk.{strings, run, expect, tail_r, stops, one, two, inside, list_at, map_at, variant_at, leaf_at, bare_at, reader, below}
 use Rattle.eon_parse.specs.Answer.{place, emit, bared, counted, moved, entered, closed_at, set_cursor}
 use Rattle.eon_token.specs.declared.cursor.Cursor.{Cursor}
 use Rattle.eon_parse.specs.declared.Walk.{Walk}
-use Rattle.eon_parse.specs.declared.Bare.{Bare}
+use Rattle.std.specs.Prelude.{Result}
 use Rattle.eon_token.proofs.Places.{gets}
 use Rattle.eon_parse.proofs.Laws.{was_refused, was_done, was_stopped, was_value, not_expected, was_expected, passed, reader_in, below_less, tail_emit}
 use Rattle.eon_parse.proofs.Left.{below_far, bare_far, list_reach, map_reach, strings_lt}
@@ -150,9 +152,9 @@ core-returns-then-k-eq-OPEN_LIST t c = let s = c.args.text.now in
     let k : c.kind-k.result ≡ kind_at s (place w) = c.kind-k.ensures ∙ peeks_kind s w.cursor w.count ready in
     let st : c.start-start.result ≡ l.start = c.start-start.ensures ∙ ap (λ (y : Cursor). y.peeked.start) ready.fresh in
     c.close.ensures
-    ∙ ap (λ (b : Bare). closed_at s tb b 3 w.count 4 c.start-start.result 0) (c.list-i.ensures ∙ ap (λ (y : Walk). bared s tb y (inside s (one s read) (place y))) c.enter-d-then-k-eq-OPEN_LIST.ensures)
-    ∙ ap (λ (n : ℕ). closed_at s tb (bared s tb (entered s w l) (inside s (one s read) l)) 3 w.count 4 n 0) st
-    ∙ closed_is s tb w l (inside s (one s read) l) 3 4 l.start 0
+    ∙ ap (λ (b : Result Walk Stop). closed_at s tb b CloseList w.count 4 c.start-start.result 0) (c.list-i.ensures ∙ ap (λ (y : Walk). bared s tb y (inside s (one s read) (place y))) c.enter-d-then-k-eq-OPEN_LIST.ensures)
+    ∙ ap (λ (n : ℕ). closed_at s tb (bared s tb (entered s w l) (inside s (one s read) l)) CloseList w.count 4 n 0) st
+    ∙ closed_is s tb w l (inside s (one s read) l) CloseList 4 l.start 0
     ∙ sym (ap (bared s tb w) (bare_list s read (place w) (sym k ∙ c.if-k-eq-OPEN_LIST.true)))
 
 pub core-enter-d-requires-then-k-eq-OPEN_BRACE : goal.core-enter-d-requires-then-k-eq-OPEN_BRACE
@@ -206,9 +208,9 @@ core-returns-then-k-eq-OPEN_BRACE t c = let s = c.args.text.now in
     let k : c.kind-k.result ≡ kind_at s (place w) = c.kind-k.ensures ∙ peeks_kind s w.cursor w.count ready in
     let st : c.start-start.result ≡ l.start = c.start-start.ensures ∙ ap (λ (y : Cursor). y.peeked.start) ready.fresh in
     c.close-then-k-eq-OPEN_BRACE.ensures
-    ∙ ap (λ (b : Bare). closed_at s tb b 5 w.count 5 c.start-start.result 0) (c.map-i.ensures ∙ ap (λ (y : Walk). bared s tb y (inside s (two s read) (place y))) c.enter-d-then-k-eq-OPEN_BRACE.ensures)
-    ∙ ap (λ (n : ℕ). closed_at s tb (bared s tb (entered s w l) (inside s (two s read) l)) 5 w.count 5 n 0) st
-    ∙ closed_is s tb w l (inside s (two s read) l) 5 5 l.start 0
+    ∙ ap (λ (b : Result Walk Stop). closed_at s tb b CloseBrace w.count 5 c.start-start.result 0) (c.map-i.ensures ∙ ap (λ (y : Walk). bared s tb y (inside s (two s read) (place y))) c.enter-d-then-k-eq-OPEN_BRACE.ensures)
+    ∙ ap (λ (n : ℕ). closed_at s tb (bared s tb (entered s w l) (inside s (two s read) l)) CloseBrace w.count 5 n 0) st
+    ∙ closed_is s tb w l (inside s (two s read) l) CloseBrace 5 l.start 0
     ∙ sym (ap (bared s tb w) (bare_map s read (place w) (sym k ∙ c.if-k-eq-OPEN_BRACE.true)))
 
 pub core-enter-d-requires-then-is_string : goal.core-enter-d-requires-then-is_string
@@ -293,10 +295,10 @@ core-returns-then-kind-eq-OPEN_PAREN t c = let s = c.args.text.now in
     let l2 = next_span s l in
     let ee : c.skip-e.result ≡ entered s w l2 = c.skip-e.ensures ∙ ap (λ (y : Walk). moved s y (next_span s (place y))) c.enter-d-then-is_string.ensures in
     c.close-then-kind-eq-OPEN_PAREN.ensures
-    ∙ ap (λ (b : Bare). closed_at s tb b 7 w.count 6 c.start-start.result c.enter-d-then-is_string.result.cursor.end) (c.list-i-then-kind-eq-OPEN_PAREN.ensures ∙ ap (λ (y : Walk). bared s tb y (inside s (one s read) (place y))) ee)
-    ∙ ap (λ (n : ℕ). closed_at s tb (bared s tb (entered s w l2) (inside s (one s read) l2)) 7 w.count 6 n c.enter-d-then-is_string.result.cursor.end) st
-    ∙ ap (λ (n : ℕ). closed_at s tb (bared s tb (entered s w l2) (inside s (one s read) l2)) 7 w.count 6 l.start n) (ap (λ (y : Walk). y.cursor.end) c.enter-d-then-is_string.ensures)
-    ∙ closed_is s tb w l2 (inside s (one s read) l2) 7 6 l.start l.end
+    ∙ ap (λ (b : Result Walk Stop). closed_at s tb b CloseParen w.count 6 c.start-start.result c.enter-d-then-is_string.result.cursor.end) (c.list-i-then-kind-eq-OPEN_PAREN.ensures ∙ ap (λ (y : Walk). bared s tb y (inside s (one s read) (place y))) ee)
+    ∙ ap (λ (n : ℕ). closed_at s tb (bared s tb (entered s w l2) (inside s (one s read) l2)) CloseParen w.count 6 n c.enter-d-then-is_string.result.cursor.end) st
+    ∙ ap (λ (n : ℕ). closed_at s tb (bared s tb (entered s w l2) (inside s (one s read) l2)) CloseParen w.count 6 l.start n) (ap (λ (y : Walk). y.cursor.end) c.enter-d-then-is_string.ensures)
+    ∙ closed_is s tb w l2 (inside s (one s read) l2) CloseParen 6 l.start l.end
     ∙ sym (ap (bared s tb w) (bare_string s read (place w) (λ z. c.if-k-eq-IDENTIFIER.false (k ∙ z)) (λ z. c.if-k-eq-NUMBER.false (k ∙ z)) (λ z. c.if-k-eq-OPEN_LIST.false (k ∙ z)) (λ z. c.if-k-eq-OPEN_BRACE.false (k ∙ z)) (sym (ap strings k) ∙ sym c.is_string.ensures ∙ c.if-is_string.true) ∙ string_variant s read (place w) (sym k2 ∙ c.if-kind-eq-OPEN_PAREN.true)))
 
 pub core-compared-requires-then-is_string : goal.core-compared-requires-then-is_string
@@ -380,8 +382,8 @@ list-value-requires t c = let s = c.args.text.now in
     let pre = ran_is s (counting s tb) d 7 q.bound b (ran_to s tb d (run s 7 (place d)) c.comments-e.result c.comments-e.ensures) in
     (omega (arith, c.less.ensures, c.decreases), pre_ready s (counting s tb) read far d q b pre)
 
-pub list-returns-in-Stopped : goal.list-returns-in-Stopped
-list-returns-in-Stopped t c = let s = c.args.text.now in
+pub list-returns-in-Err : goal.list-returns-in-Err
+list-returns-in-Err t c = let s = c.args.text.now in
     let tb = c.args.table.now in
     let w = c.args.w in
     let read = below c.args.depth s in
@@ -391,7 +393,7 @@ list-returns-in-Stopped t c = let s = c.args.text.now in
     let e : stops s (place d) ≡ false = sym c.ends.ensures ∙ c.if-ends.false in
     let b = c.comments-e.result in
     let pre = ran_is s (counting s tb) d 7 q.bound b (ran_to s tb d (run s 7 (place d)) c.comments-e.result c.comments-e.ensures) in
-    is_refused s tb w (inside s (one s read) (place w)) c.in-Stopped.x (passed (passed (was_stopped s tb b _ (sym c.value.ensures ∙ c.in-Stopped.is)) (λ r p h. sym (ap (λ (j : ℕ). reader j s (place b)) c.less.ensures ∙ below_less c.args.depth s (place b)) ∙ h)) (λ r p h. inside_stop s (counting s tb) (one s read) w c.requires d c.loop-e.invariant e (one_stop s (counting s tb) read far d q b pre h)))
+    is_refused s tb w (inside s (one s read) (place w)) c.in-Err.x (passed (passed (was_stopped s tb b _ (sym c.value.ensures ∙ c.in-Err.is)) (λ r p h. sym (ap (λ (j : ℕ). reader j s (place b)) c.less.ensures ∙ below_less c.args.depth s (place b)) ∙ h)) (λ r p h. inside_stop s (counting s tb) (one s read) w c.requires d c.loop-e.invariant e (one_stop s (counting s tb) read far d q b pre h)))
 
 pub list-settle-d-requires : goal.list-settle-d-requires
 list-settle-d-requires t c = let s = c.args.text.now in
@@ -403,8 +405,8 @@ list-settle-d-requires t c = let s = c.args.text.now in
     let q = inv_ready s (counting s tb) (stops s) (one s read) w c.requires d c.loop-e.invariant in
     let b = c.comments-e.result in
     let pre = ran_is s (counting s tb) d 7 q.bound b (ran_to s tb d (run s 7 (place d)) c.comments-e.result c.comments-e.ensures) in
-    let v = was_value s tb b (read (place b)) (ap (counted s tb b) (sym (ap (λ (j : ℕ). reader j s (place b)) c.less.ensures ∙ below_less c.args.depth s (place b))) ∙ sym c.value.ensures ∙ c.in-Value.is) in
-    value_ready s (counting s tb) read far d q b pre c.in-Value.x c.in-Value.from v
+    let v = was_value s tb b (read (place b)) (ap (counted s tb b) (sym (ap (λ (j : ℕ). reader j s (place b)) c.less.ensures ∙ below_less c.args.depth s (place b))) ∙ sym c.value.ensures ∙ c.in-Ok.is) in
+    value_ready s (counting s tb) read far d q b pre c.in-Ok.x.walk c.in-Ok.x.from v
 
 pub list-loop-e-smaller : goal.list-loop-e-smaller
 list-loop-e-smaller t c = let s = c.args.text.now in
@@ -417,8 +419,8 @@ list-loop-e-smaller t c = let s = c.args.text.now in
     let e : stops s (place d) ≡ false = sym c.ends.ensures ∙ c.if-ends.false in
     let b = c.comments-e.result in
     let pre = ran_is s (counting s tb) d 7 q.bound b (ran_to s tb d (run s 7 (place d)) c.comments-e.result c.comments-e.ensures) in
-    let v = was_value s tb b (read (place b)) (ap (counted s tb b) (sym (ap (λ (j : ℕ). reader j s (place b)) c.less.ensures ∙ below_less c.args.depth s (place b))) ∙ sym c.value.ensures ∙ c.in-Value.is) in
-    let t = one_next s (counting s tb) read far d q b pre c.in-Value.x c.in-Value.from v c.settle-d.result c.settle-d.ensures in
+    let v = was_value s tb b (read (place b)) (ap (counted s tb b) (sym (ap (λ (j : ℕ). reader j s (place b)) c.less.ensures ∙ below_less c.args.depth s (place b))) ∙ sym c.value.ensures ∙ c.in-Ok.is) in
+    let t = one_next s (counting s tb) read far d q b pre c.in-Ok.x.walk c.in-Ok.x.from v c.settle-d.result c.settle-d.ensures in
     let k = inv_turn s (counting s tb) (stops s) (one s read) w c.requires d c.loop-e.invariant e t.is t.so.1 c.settle-d.result t.so.0 in omega (arith, k.1, k.2)
 
 pub list-loop-e-preserved : goal.list-loop-e-preserved
@@ -432,8 +434,8 @@ list-loop-e-preserved t c = let s = c.args.text.now in
     let e : stops s (place d) ≡ false = sym c.ends.ensures ∙ c.if-ends.false in
     let b = c.comments-e.result in
     let pre = ran_is s (counting s tb) d 7 q.bound b (ran_to s tb d (run s 7 (place d)) c.comments-e.result c.comments-e.ensures) in
-    let v = was_value s tb b (read (place b)) (ap (counted s tb b) (sym (ap (λ (j : ℕ). reader j s (place b)) c.less.ensures ∙ below_less c.args.depth s (place b))) ∙ sym c.value.ensures ∙ c.in-Value.is) in
-    let t = one_next s (counting s tb) read far d q b pre c.in-Value.x c.in-Value.from v c.settle-d.result c.settle-d.ensures in
+    let v = was_value s tb b (read (place b)) (ap (counted s tb b) (sym (ap (λ (j : ℕ). reader j s (place b)) c.less.ensures ∙ below_less c.args.depth s (place b))) ∙ sym c.value.ensures ∙ c.in-Ok.is) in
+    let t = one_next s (counting s tb) read far d q b pre c.in-Ok.x.walk c.in-Ok.x.from v c.settle-d.result c.settle-d.ensures in
     (inv_turn s (counting s tb) (stops s) (one s read) w c.requires d c.loop-e.invariant e t.is t.so.1 c.settle-d.result t.so.0).0
 
 pub list-comments-requires : goal.list-comments-requires
@@ -499,8 +501,8 @@ map-value-requires t c = let s = c.args.text.now in
     let pre = ran_is s (counting s tb) d 7 q.bound b (ran_to s tb d (run s 7 (place d)) c.comments-e.result c.comments-e.ensures) in
     (omega (arith, c.less.ensures, c.decreases), pre_ready s (counting s tb) read far d q b pre)
 
-pub map-returns-in-Stopped : goal.map-returns-in-Stopped
-map-returns-in-Stopped t c = let s = c.args.text.now in
+pub map-returns-in-Err : goal.map-returns-in-Err
+map-returns-in-Err t c = let s = c.args.text.now in
     let tb = c.args.table.now in
     let w = c.args.w in
     let read = below c.args.depth s in
@@ -510,7 +512,7 @@ map-returns-in-Stopped t c = let s = c.args.text.now in
     let e : stops s (place d) ≡ false = sym c.ends.ensures ∙ c.if-ends.false in
     let b = c.comments-e.result in
     let pre = ran_is s (counting s tb) d 7 q.bound b (ran_to s tb d (run s 7 (place d)) c.comments-e.result c.comments-e.ensures) in
-    is_refused s tb w (inside s (two s read) (place w)) c.in-Stopped.x (passed (passed (was_stopped s tb b _ (sym c.value.ensures ∙ c.in-Stopped.is)) (λ r p h. sym (ap (λ (j : ℕ). reader j s (place b)) c.less.ensures ∙ below_less c.args.depth s (place b)) ∙ h)) (λ r p h. inside_stop s (counting s tb) (two s read) w c.requires d c.loop-e.invariant e (two_stop s (counting s tb) read far d q b pre h)))
+    is_refused s tb w (inside s (two s read) (place w)) c.in-Err.x (passed (passed (was_stopped s tb b _ (sym c.value.ensures ∙ c.in-Err.is)) (λ r p h. sym (ap (λ (j : ℕ). reader j s (place b)) c.less.ensures ∙ below_less c.args.depth s (place b)) ∙ h)) (λ r p h. inside_stop s (counting s tb) (two s read) w c.requires d c.loop-e.invariant e (two_stop s (counting s tb) read far d q b pre h)))
 
 pub map-tail-y-requires : goal.map-tail-y-requires
 map-tail-y-requires t c = let s = c.args.text.now in
@@ -522,8 +524,8 @@ map-tail-y-requires t c = let s = c.args.text.now in
     let q = inv_ready s (counting s tb) (stops s) (two s read) w c.requires d c.loop-e.invariant in
     let b = c.comments-e.result in
     let pre = ran_is s (counting s tb) d 7 q.bound b (ran_to s tb d (run s 7 (place d)) c.comments-e.result c.comments-e.ensures) in
-    let v = was_value s tb b (read (place b)) (ap (counted s tb b) (sym (ap (λ (j : ℕ). reader j s (place b)) c.less.ensures ∙ below_less c.args.depth s (place b))) ∙ sym c.value.ensures ∙ c.in-Value.is) in
-    let xr = value_ready s (counting s tb) read far d q b pre c.in-Value.x c.in-Value.from v in
+    let v = was_value s tb b (read (place b)) (ap (counted s tb b) (sym (ap (λ (j : ℕ). reader j s (place b)) c.less.ensures ∙ below_less c.args.depth s (place b))) ∙ sym c.value.ensures ∙ c.in-Ok.is) in
+    let xr = value_ready s (counting s tb) read far d q b pre c.in-Ok.x.walk c.in-Ok.x.from v in
     omega (arith, xr.few, xr.bound.within, xr.short)
 
 pub map-must-requires : goal.map-must-requires
@@ -536,14 +538,14 @@ map-must-requires t c = let s = c.args.text.now in
     let q = inv_ready s (counting s tb) (stops s) (two s read) w c.requires d c.loop-e.invariant in
     let b = c.comments-e.result in
     let pre = ran_is s (counting s tb) d 7 q.bound b (ran_to s tb d (run s 7 (place d)) c.comments-e.result c.comments-e.ensures) in
-    let v = was_value s tb b (read (place b)) (ap (counted s tb b) (sym (ap (λ (j : ℕ). reader j s (place b)) c.less.ensures ∙ below_less c.args.depth s (place b))) ∙ sym c.value.ensures ∙ c.in-Value.is) in
-    let xr = value_ready s (counting s tb) read far d q b pre c.in-Value.x c.in-Value.from v in
+    let v = was_value s tb b (read (place b)) (ap (counted s tb b) (sym (ap (λ (j : ℕ). reader j s (place b)) c.less.ensures ∙ below_less c.args.depth s (place b))) ∙ sym c.value.ensures ∙ c.in-Ok.is) in
+    let xr = value_ready s (counting s tb) read far d q b pre c.in-Ok.x.walk c.in-Ok.x.from v in
     let y = c.tail-y.result in
-    let te : y ≡ emit s tb c.in-Value.x (tail_r c.in-Value.from (place c.in-Value.x)) (place c.in-Value.x) = c.tail-y.ensures ∙ tail_emit s tb c.in-Value.x xr.fresh _ in
-    key_ready s (counting s tb) read far d q b pre c.in-Value.x c.in-Value.from v y te
+    let te : y ≡ emit s tb c.in-Ok.x.walk (tail_r c.in-Ok.x.from (place c.in-Ok.x.walk)) (place c.in-Ok.x.walk) = c.tail-y.ensures ∙ tail_emit s tb c.in-Ok.x.walk xr.fresh _ in
+    key_ready s (counting s tb) read far d q b pre c.in-Ok.x.walk c.in-Ok.x.from v y te
 
-pub map-returns-in-Refused : goal.map-returns-in-Refused
-map-returns-in-Refused t c = let s = c.args.text.now in
+pub map-returns-in-Err-must : goal.map-returns-in-Err-must
+map-returns-in-Err-must t c = let s = c.args.text.now in
     let tb = c.args.table.now in
     let w = c.args.w in
     let read = below c.args.depth s in
@@ -553,14 +555,14 @@ map-returns-in-Refused t c = let s = c.args.text.now in
     let e : stops s (place d) ≡ false = sym c.ends.ensures ∙ c.if-ends.false in
     let b = c.comments-e.result in
     let pre = ran_is s (counting s tb) d 7 q.bound b (ran_to s tb d (run s 7 (place d)) c.comments-e.result c.comments-e.ensures) in
-    let v = was_value s tb b (read (place b)) (ap (counted s tb b) (sym (ap (λ (j : ℕ). reader j s (place b)) c.less.ensures ∙ below_less c.args.depth s (place b))) ∙ sym c.value.ensures ∙ c.in-Value.is) in
-    let xr = value_ready s (counting s tb) read far d q b pre c.in-Value.x c.in-Value.from v in
+    let v = was_value s tb b (read (place b)) (ap (counted s tb b) (sym (ap (λ (j : ℕ). reader j s (place b)) c.less.ensures ∙ below_less c.args.depth s (place b))) ∙ sym c.value.ensures ∙ c.in-Ok.is) in
+    let xr = value_ready s (counting s tb) read far d q b pre c.in-Ok.x.walk c.in-Ok.x.from v in
     let y = c.tail-y.result in
-    let te : y ≡ emit s tb c.in-Value.x (tail_r c.in-Value.from (place c.in-Value.x)) (place c.in-Value.x) = c.tail-y.ensures ∙ tail_emit s tb c.in-Value.x xr.fresh _ in
-    is_refused s tb w (inside s (two s read) (place w)) c.in-Refused.n (passed (not_expected s y (expect s 8 (place y)) (sym c.must.ensures ∙ c.in-Refused.is)) (λ r p h. inside_stop s (counting s tb) (two s read) w c.requires d c.loop-e.invariant e (colon_stop s (counting s tb) read far d q b pre c.in-Value.x c.in-Value.from v y te h)))
+    let te : y ≡ emit s tb c.in-Ok.x.walk (tail_r c.in-Ok.x.from (place c.in-Ok.x.walk)) (place c.in-Ok.x.walk) = c.tail-y.ensures ∙ tail_emit s tb c.in-Ok.x.walk xr.fresh _ in
+    is_refused s tb w (inside s (two s read) (place w)) c.in-Err-must.n (passed (not_expected s y (expect s Colon (place y)) (sym c.must.ensures ∙ c.in-Err-must.is)) (λ r p h. inside_stop s (counting s tb) (two s read) w c.requires d c.loop-e.invariant e (colon_stop s (counting s tb) read far d q b pre c.in-Ok.x.walk c.in-Ok.x.from v y te h)))
 
-pub map-value-requires-in-Done : goal.map-value-requires-in-Done
-map-value-requires-in-Done t c = let s = c.args.text.now in
+pub map-value-requires-in-Ok-must : goal.map-value-requires-in-Ok-must
+map-value-requires-in-Ok-must t c = let s = c.args.text.now in
     let tb = c.args.table.now in
     let w = c.args.w in
     let read = below c.args.depth s in
@@ -569,16 +571,16 @@ map-value-requires-in-Done t c = let s = c.args.text.now in
     let q = inv_ready s (counting s tb) (stops s) (two s read) w c.requires d c.loop-e.invariant in
     let b = c.comments-e.result in
     let pre = ran_is s (counting s tb) d 7 q.bound b (ran_to s tb d (run s 7 (place d)) c.comments-e.result c.comments-e.ensures) in
-    let v = was_value s tb b (read (place b)) (ap (counted s tb b) (sym (ap (λ (j : ℕ). reader j s (place b)) c.less.ensures ∙ below_less c.args.depth s (place b))) ∙ sym c.value.ensures ∙ c.in-Value.is) in
-    let xr = value_ready s (counting s tb) read far d q b pre c.in-Value.x c.in-Value.from v in
+    let v = was_value s tb b (read (place b)) (ap (counted s tb b) (sym (ap (λ (j : ℕ). reader j s (place b)) c.less.ensures ∙ below_less c.args.depth s (place b))) ∙ sym c.value.ensures ∙ c.in-Ok.is) in
+    let xr = value_ready s (counting s tb) read far d q b pre c.in-Ok.x.walk c.in-Ok.x.from v in
     let y = c.tail-y.result in
-    let te : y ≡ emit s tb c.in-Value.x (tail_r c.in-Value.from (place c.in-Value.x)) (place c.in-Value.x) = c.tail-y.ensures ∙ tail_emit s tb c.in-Value.x xr.fresh _ in
-    let z = was_expected s y (expect s 8 (place y)) (sym c.must.ensures ∙ c.in-Done.is) in
-    let g = c.in-Done.z in
-    (omega (arith, c.less-in-Done.ensures, c.decreases), colon_ready s (counting s tb) read far d q b pre c.in-Value.x c.in-Value.from v y te g z)
+    let te : y ≡ emit s tb c.in-Ok.x.walk (tail_r c.in-Ok.x.from (place c.in-Ok.x.walk)) (place c.in-Ok.x.walk) = c.tail-y.ensures ∙ tail_emit s tb c.in-Ok.x.walk xr.fresh _ in
+    let z = was_expected s y (expect s Colon (place y)) (sym c.must.ensures ∙ c.in-Ok-must.is) in
+    let g = c.in-Ok-must.z in
+    (omega (arith, c.less-in-Ok-must.ensures, c.decreases), colon_ready s (counting s tb) read far d q b pre c.in-Ok.x.walk c.in-Ok.x.from v y te g z)
 
-pub map-returns-in-Stopped-value : goal.map-returns-in-Stopped-value
-map-returns-in-Stopped-value t c = let s = c.args.text.now in
+pub map-returns-in-Err-value : goal.map-returns-in-Err-value
+map-returns-in-Err-value t c = let s = c.args.text.now in
     let tb = c.args.table.now in
     let w = c.args.w in
     let read = below c.args.depth s in
@@ -588,13 +590,13 @@ map-returns-in-Stopped-value t c = let s = c.args.text.now in
     let e : stops s (place d) ≡ false = sym c.ends.ensures ∙ c.if-ends.false in
     let b = c.comments-e.result in
     let pre = ran_is s (counting s tb) d 7 q.bound b (ran_to s tb d (run s 7 (place d)) c.comments-e.result c.comments-e.ensures) in
-    let v = was_value s tb b (read (place b)) (ap (counted s tb b) (sym (ap (λ (j : ℕ). reader j s (place b)) c.less.ensures ∙ below_less c.args.depth s (place b))) ∙ sym c.value.ensures ∙ c.in-Value.is) in
-    let xr = value_ready s (counting s tb) read far d q b pre c.in-Value.x c.in-Value.from v in
+    let v = was_value s tb b (read (place b)) (ap (counted s tb b) (sym (ap (λ (j : ℕ). reader j s (place b)) c.less.ensures ∙ below_less c.args.depth s (place b))) ∙ sym c.value.ensures ∙ c.in-Ok.is) in
+    let xr = value_ready s (counting s tb) read far d q b pre c.in-Ok.x.walk c.in-Ok.x.from v in
     let y = c.tail-y.result in
-    let te : y ≡ emit s tb c.in-Value.x (tail_r c.in-Value.from (place c.in-Value.x)) (place c.in-Value.x) = c.tail-y.ensures ∙ tail_emit s tb c.in-Value.x xr.fresh _ in
-    let z = was_expected s y (expect s 8 (place y)) (sym c.must.ensures ∙ c.in-Done.is) in
-    let g = c.in-Done.z in
-    is_refused s tb w (inside s (two s read) (place w)) c.in-Stopped-value.n (passed (passed (was_stopped s tb g _ (sym c.value-in-Done.ensures ∙ c.in-Stopped-value.is)) (λ r p h. sym (ap (λ (j : ℕ). reader j s (place g)) c.less-in-Done.ensures ∙ below_less c.args.depth s (place g)) ∙ h)) (λ r p h. inside_stop s (counting s tb) (two s read) w c.requires d c.loop-e.invariant e (value_stop s (counting s tb) read far d q b pre c.in-Value.x c.in-Value.from v y te g z h)))
+    let te : y ≡ emit s tb c.in-Ok.x.walk (tail_r c.in-Ok.x.from (place c.in-Ok.x.walk)) (place c.in-Ok.x.walk) = c.tail-y.ensures ∙ tail_emit s tb c.in-Ok.x.walk xr.fresh _ in
+    let z = was_expected s y (expect s Colon (place y)) (sym c.must.ensures ∙ c.in-Ok-must.is) in
+    let g = c.in-Ok-must.z in
+    is_refused s tb w (inside s (two s read) (place w)) c.in-Err-value.n (passed (passed (was_stopped s tb g _ (sym c.value-in-Ok-must.ensures ∙ c.in-Err-value.is)) (λ r p h. sym (ap (λ (j : ℕ). reader j s (place g)) c.less-in-Ok-must.ensures ∙ below_less c.args.depth s (place g)) ∙ h)) (λ r p h. inside_stop s (counting s tb) (two s read) w c.requires d c.loop-e.invariant e (value_stop s (counting s tb) read far d q b pre c.in-Ok.x.walk c.in-Ok.x.from v y te g z h)))
 
 pub map-settle-d-requires : goal.map-settle-d-requires
 map-settle-d-requires t c = let s = c.args.text.now in
@@ -606,14 +608,14 @@ map-settle-d-requires t c = let s = c.args.text.now in
     let q = inv_ready s (counting s tb) (stops s) (two s read) w c.requires d c.loop-e.invariant in
     let b = c.comments-e.result in
     let pre = ran_is s (counting s tb) d 7 q.bound b (ran_to s tb d (run s 7 (place d)) c.comments-e.result c.comments-e.ensures) in
-    let v = was_value s tb b (read (place b)) (ap (counted s tb b) (sym (ap (λ (j : ℕ). reader j s (place b)) c.less.ensures ∙ below_less c.args.depth s (place b))) ∙ sym c.value.ensures ∙ c.in-Value.is) in
-    let xr = value_ready s (counting s tb) read far d q b pre c.in-Value.x c.in-Value.from v in
+    let v = was_value s tb b (read (place b)) (ap (counted s tb b) (sym (ap (λ (j : ℕ). reader j s (place b)) c.less.ensures ∙ below_less c.args.depth s (place b))) ∙ sym c.value.ensures ∙ c.in-Ok.is) in
+    let xr = value_ready s (counting s tb) read far d q b pre c.in-Ok.x.walk c.in-Ok.x.from v in
     let y = c.tail-y.result in
-    let te : y ≡ emit s tb c.in-Value.x (tail_r c.in-Value.from (place c.in-Value.x)) (place c.in-Value.x) = c.tail-y.ensures ∙ tail_emit s tb c.in-Value.x xr.fresh _ in
-    let z = was_expected s y (expect s 8 (place y)) (sym c.must.ensures ∙ c.in-Done.is) in
-    let g = c.in-Done.z in
-    let u = was_value s tb g (read (place g)) (ap (counted s tb g) (sym (ap (λ (j : ℕ). reader j s (place g)) c.less-in-Done.ensures ∙ below_less c.args.depth s (place g))) ∙ sym c.value-in-Done.ensures ∙ c.in-Value-value.is) in
-    second_ready s (counting s tb) read far d q b pre c.in-Value.x c.in-Value.from v y te g z c.in-Value-value.v c.in-Value-value.since u
+    let te : y ≡ emit s tb c.in-Ok.x.walk (tail_r c.in-Ok.x.from (place c.in-Ok.x.walk)) (place c.in-Ok.x.walk) = c.tail-y.ensures ∙ tail_emit s tb c.in-Ok.x.walk xr.fresh _ in
+    let z = was_expected s y (expect s Colon (place y)) (sym c.must.ensures ∙ c.in-Ok-must.is) in
+    let g = c.in-Ok-must.z in
+    let u = was_value s tb g (read (place g)) (ap (counted s tb g) (sym (ap (λ (j : ℕ). reader j s (place g)) c.less-in-Ok-must.ensures ∙ below_less c.args.depth s (place g))) ∙ sym c.value-in-Ok-must.ensures ∙ c.in-Ok-value.is) in
+    second_ready s (counting s tb) read far d q b pre c.in-Ok.x.walk c.in-Ok.x.from v y te g z c.in-Ok-value.v.walk c.in-Ok-value.v.from u
 
 pub map-loop-e-smaller : goal.map-loop-e-smaller
 map-loop-e-smaller t c = let s = c.args.text.now in
@@ -626,14 +628,14 @@ map-loop-e-smaller t c = let s = c.args.text.now in
     let e : stops s (place d) ≡ false = sym c.ends.ensures ∙ c.if-ends.false in
     let b = c.comments-e.result in
     let pre = ran_is s (counting s tb) d 7 q.bound b (ran_to s tb d (run s 7 (place d)) c.comments-e.result c.comments-e.ensures) in
-    let v = was_value s tb b (read (place b)) (ap (counted s tb b) (sym (ap (λ (j : ℕ). reader j s (place b)) c.less.ensures ∙ below_less c.args.depth s (place b))) ∙ sym c.value.ensures ∙ c.in-Value.is) in
-    let xr = value_ready s (counting s tb) read far d q b pre c.in-Value.x c.in-Value.from v in
+    let v = was_value s tb b (read (place b)) (ap (counted s tb b) (sym (ap (λ (j : ℕ). reader j s (place b)) c.less.ensures ∙ below_less c.args.depth s (place b))) ∙ sym c.value.ensures ∙ c.in-Ok.is) in
+    let xr = value_ready s (counting s tb) read far d q b pre c.in-Ok.x.walk c.in-Ok.x.from v in
     let y = c.tail-y.result in
-    let te : y ≡ emit s tb c.in-Value.x (tail_r c.in-Value.from (place c.in-Value.x)) (place c.in-Value.x) = c.tail-y.ensures ∙ tail_emit s tb c.in-Value.x xr.fresh _ in
-    let z = was_expected s y (expect s 8 (place y)) (sym c.must.ensures ∙ c.in-Done.is) in
-    let g = c.in-Done.z in
-    let u = was_value s tb g (read (place g)) (ap (counted s tb g) (sym (ap (λ (j : ℕ). reader j s (place g)) c.less-in-Done.ensures ∙ below_less c.args.depth s (place g))) ∙ sym c.value-in-Done.ensures ∙ c.in-Value-value.is) in
-    let t = two_next s (counting s tb) read far d q b pre c.in-Value.x c.in-Value.from v y te g z c.in-Value-value.v c.in-Value-value.since u c.settle-d.result c.settle-d.ensures in
+    let te : y ≡ emit s tb c.in-Ok.x.walk (tail_r c.in-Ok.x.from (place c.in-Ok.x.walk)) (place c.in-Ok.x.walk) = c.tail-y.ensures ∙ tail_emit s tb c.in-Ok.x.walk xr.fresh _ in
+    let z = was_expected s y (expect s Colon (place y)) (sym c.must.ensures ∙ c.in-Ok-must.is) in
+    let g = c.in-Ok-must.z in
+    let u = was_value s tb g (read (place g)) (ap (counted s tb g) (sym (ap (λ (j : ℕ). reader j s (place g)) c.less-in-Ok-must.ensures ∙ below_less c.args.depth s (place g))) ∙ sym c.value-in-Ok-must.ensures ∙ c.in-Ok-value.is) in
+    let t = two_next s (counting s tb) read far d q b pre c.in-Ok.x.walk c.in-Ok.x.from v y te g z c.in-Ok-value.v.walk c.in-Ok-value.v.from u c.settle-d.result c.settle-d.ensures in
     let k = inv_turn s (counting s tb) (stops s) (two s read) w c.requires d c.loop-e.invariant e t.is t.so.1 c.settle-d.result t.so.0 in omega (arith, k.1, k.2)
 
 pub map-loop-e-preserved : goal.map-loop-e-preserved
@@ -647,14 +649,14 @@ map-loop-e-preserved t c = let s = c.args.text.now in
     let e : stops s (place d) ≡ false = sym c.ends.ensures ∙ c.if-ends.false in
     let b = c.comments-e.result in
     let pre = ran_is s (counting s tb) d 7 q.bound b (ran_to s tb d (run s 7 (place d)) c.comments-e.result c.comments-e.ensures) in
-    let v = was_value s tb b (read (place b)) (ap (counted s tb b) (sym (ap (λ (j : ℕ). reader j s (place b)) c.less.ensures ∙ below_less c.args.depth s (place b))) ∙ sym c.value.ensures ∙ c.in-Value.is) in
-    let xr = value_ready s (counting s tb) read far d q b pre c.in-Value.x c.in-Value.from v in
+    let v = was_value s tb b (read (place b)) (ap (counted s tb b) (sym (ap (λ (j : ℕ). reader j s (place b)) c.less.ensures ∙ below_less c.args.depth s (place b))) ∙ sym c.value.ensures ∙ c.in-Ok.is) in
+    let xr = value_ready s (counting s tb) read far d q b pre c.in-Ok.x.walk c.in-Ok.x.from v in
     let y = c.tail-y.result in
-    let te : y ≡ emit s tb c.in-Value.x (tail_r c.in-Value.from (place c.in-Value.x)) (place c.in-Value.x) = c.tail-y.ensures ∙ tail_emit s tb c.in-Value.x xr.fresh _ in
-    let z = was_expected s y (expect s 8 (place y)) (sym c.must.ensures ∙ c.in-Done.is) in
-    let g = c.in-Done.z in
-    let u = was_value s tb g (read (place g)) (ap (counted s tb g) (sym (ap (λ (j : ℕ). reader j s (place g)) c.less-in-Done.ensures ∙ below_less c.args.depth s (place g))) ∙ sym c.value-in-Done.ensures ∙ c.in-Value-value.is) in
-    let t = two_next s (counting s tb) read far d q b pre c.in-Value.x c.in-Value.from v y te g z c.in-Value-value.v c.in-Value-value.since u c.settle-d.result c.settle-d.ensures in
+    let te : y ≡ emit s tb c.in-Ok.x.walk (tail_r c.in-Ok.x.from (place c.in-Ok.x.walk)) (place c.in-Ok.x.walk) = c.tail-y.ensures ∙ tail_emit s tb c.in-Ok.x.walk xr.fresh _ in
+    let z = was_expected s y (expect s Colon (place y)) (sym c.must.ensures ∙ c.in-Ok-must.is) in
+    let g = c.in-Ok-must.z in
+    let u = was_value s tb g (read (place g)) (ap (counted s tb g) (sym (ap (λ (j : ℕ). reader j s (place g)) c.less-in-Ok-must.ensures ∙ below_less c.args.depth s (place g))) ∙ sym c.value-in-Ok-must.ensures ∙ c.in-Ok-value.is) in
+    let t = two_next s (counting s tb) read far d q b pre c.in-Ok.x.walk c.in-Ok.x.from v y te g z c.in-Ok-value.v.walk c.in-Ok-value.v.from u c.settle-d.result c.settle-d.ensures in
     (inv_turn s (counting s tb) (stops s) (two s read) w c.requires d c.loop-e.invariant e t.is t.so.1 c.settle-d.result t.so.0).0
 
 pub map-comments-requires : goal.map-comments-requires
@@ -682,7 +684,7 @@ map-returns t c = let s = c.args.text.now in
 
 pub value-returns-then-depth-eq0 : goal.value-returns-then-depth-eq0
 unfolding counted reader
-value-returns-then-depth-eq0 t c = ap Stopped c.too_deep.ensures ∙ rw c.if-depth-eq0.true
+value-returns-then-depth-eq0 t c = ap Err c.refuse_before.ensures ∙ rw c.if-depth-eq0.true
 
 pub value-comments-d-requires : goal.value-comments-d-requires
 value-comments-d-requires t c = (c.requires, omega arith)
@@ -712,14 +714,14 @@ value-suffix_end-e-requires t c = let s = c.args.text.now in
     let pre = ran_is s (counting s tb) w 7 c.requires.bound b (ran_to s tb w (run s 7 (place w)) c.comments-d.result c.comments-d.ensures) in
     let q = emit_ready s (counting s tb) w pre.what pre.next b pre.so.0 c.requires pre.so.2 pre.so.3 in
     let bare = bare_at s read (place b) in
-    let x = c.in-Done.x in
-    let r = was_done s tb b bare (sym c.core.ensures ∙ c.in-Done.is) in
+    let x = c.in-Ok.x in
+    let r = was_done s tb b bare (sym c.core.ensures ∙ c.in-Ok.is) in
     let g : ((place b).end + length r.what ≤ r.next.end) × ((place b).end < r.next.end) × Spot s r.next = rw r.is at (bare_far s read far (place b) q.bound) in
     let xr = emit_ready s (counting s tb) b r.what r.next x r.so q g.0 g.2 in
     ready_at s x.cursor x.count 0 x.cursor (place x) xr xr.fresh xr.bound (omega arith)
 
-pub value-returns-in-Refused : goal.value-returns-in-Refused
-value-returns-in-Refused t c = let s = c.args.text.now in
+pub value-returns-in-Err : goal.value-returns-in-Err
+value-returns-in-Err t c = let s = c.args.text.now in
     let tb = c.args.table.now in
     let w = c.args.w in
     let read = below (c.args.depth - 1) s in
@@ -728,10 +730,10 @@ value-returns-in-Refused t c = let s = c.args.text.now in
     let pre = ran_is s (counting s tb) w 7 c.requires.bound b (ran_to s tb w (run s 7 (place w)) c.comments-d.result c.comments-d.ensures) in
     let q = emit_ready s (counting s tb) w pre.what pre.next b pre.so.0 c.requires pre.so.2 pre.so.3 in
     let bare = bare_at s read (place b) in
-    is_stopped s tb w (reader c.args.depth s (place w)) c.in-Refused.x (passed (was_refused s tb b bare (sym c.core.ensures ∙ c.in-Refused.is)) (λ r p h. reader_in c.args.depth s (place w) c.if-depth-eq0.false ∙ value_refused s (counting s tb) read w b pre h))
+    is_stopped s tb w (reader c.args.depth s (place w)) c.in-Err.x (passed (was_refused s tb b bare (sym c.core.ensures ∙ c.in-Err.is)) (λ r p h. reader_in c.args.depth s (place w) c.if-depth-eq0.false ∙ value_refused s (counting s tb) read w b pre h))
 
-pub value-returns-in-Done : goal.value-returns-in-Done
-value-returns-in-Done t c = let s = c.args.text.now in
+pub value-returns-in-Ok : goal.value-returns-in-Ok
+value-returns-in-Ok t c = let s = c.args.text.now in
     let tb = c.args.table.now in
     let w = c.args.w in
     let read = below (c.args.depth - 1) s in
@@ -740,8 +742,8 @@ value-returns-in-Done t c = let s = c.args.text.now in
     let pre = ran_is s (counting s tb) w 7 c.requires.bound b (ran_to s tb w (run s 7 (place w)) c.comments-d.result c.comments-d.ensures) in
     let q = emit_ready s (counting s tb) w pre.what pre.next b pre.so.0 c.requires pre.so.2 pre.so.3 in
     let bare = bare_at s read (place b) in
-    let x = c.in-Done.x in
-    let r = was_done s tb b bare (sym c.core.ensures ∙ c.in-Done.is) in
+    let x = c.in-Ok.x in
+    let r = was_done s tb b bare (sym c.core.ensures ∙ c.in-Ok.is) in
     let g : ((place b).end + length r.what ≤ r.next.end) × ((place b).end < r.next.end) × Spot s r.next = rw r.is at (bare_far s read far (place b) q.bound) in
     let xr = emit_ready s (counting s tb) b r.what r.next x r.so q g.0 g.2 in
     let i = value_is s (counting s tb) read w b pre x r c.at.result (c.at.ensures ∙ ap (set_cursor x) c.suffix_end-e.ensures) in

@@ -1,3 +1,4 @@
+use Rattle.eon_spec.specs.declared.token_kind.TokenKind.TheVariants.{CloseList, CloseBrace, CloseParen, Colon}
 use mathlib.Core.Path.{◌≡◌, refl, sym, ap, ◌∙◌, subst}
 use mathlib.Core.Bool.{true, false}
 use mathlib.Core.List.{[], ◌∷◌}
@@ -6,7 +7,7 @@ use native.Mathlib.Omega.{arith}
 use lib.ListN.{length}
 use Rattle.eon_spec.specs.Records.{leaf}
 use Rattle.eon_token.specs.Place.{Spot, kind_at, next_span}
-use Rattle.eon_parse.specs.declared.Got.TheVariants.{Stopped}
+use Rattle.std.specs.Prelude.{Err}
 use Rattle.eon_parse.specs.Walk.{Out, Records, strings, run, expect, tail_r, Item, stops, one, two, inside, list_at, map_at, variant_at, leaf_at, bare_at, reader, below}
 use Rattle.eon_parse.specs.Answer.{place, moved, entered, set_cursor, FilledB, FilledI, FilledC}
 use Rattle.eon_token.specs.declared.cursor.Cursor.{Cursor}
@@ -161,8 +162,8 @@ fill_core-returns-then-k-eq-OPEN_LIST t c = let s = c.args.text.now in
     subst (λ (z : Out Records). FilledB s tb w z c.fill_close.result c.fill_close.new.table) (sym (bare_list s read (place w) (sym k ∙ c.if-k-eq-OPEN_LIST.true)))
     (fill_closed s tb w l (inside s (one s read) l) c.fill_list-i.result c.fill_list-i.new.table
     (subst (λ (y : Walk). FilledB s tb y (inside s (one s read) (place y)) c.fill_list-i.result c.fill_list-i.new.table) c.enter-d-then-k-eq-OPEN_LIST.ensures c.fill_list-i.ensures)
-    3 4 l.start 0 c.fill_close.result c.fill_close.new.table
-    (subst (λ (n : ℕ). FilledC s c.fill_list-i.new.table c.fill_list-i.result 3 w.count 4 n 0 c.fill_close.result c.fill_close.new.table) st c.fill_close.ensures))
+    CloseList 4 l.start 0 c.fill_close.result c.fill_close.new.table
+    (subst (λ (n : ℕ). FilledC s c.fill_list-i.new.table c.fill_list-i.result CloseList w.count 4 n 0 c.fill_close.result c.fill_close.new.table) st c.fill_close.ensures))
 
 pub fill_core-enter-d-requires-then-k-eq-OPEN_BRACE : goal.fill_core-enter-d-requires-then-k-eq-OPEN_BRACE
 fill_core-enter-d-requires-then-k-eq-OPEN_BRACE t c = let s = c.args.text.now in
@@ -223,8 +224,8 @@ fill_core-returns-then-k-eq-OPEN_BRACE t c = let s = c.args.text.now in
     subst (λ (z : Out Records). FilledB s tb w z c.fill_close-then-k-eq-OPEN_BRACE.result c.fill_close-then-k-eq-OPEN_BRACE.new.table) (sym (bare_map s read (place w) (sym k ∙ c.if-k-eq-OPEN_BRACE.true)))
     (fill_closed s tb w l (inside s (two s read) l) c.fill_map-i.result c.fill_map-i.new.table
     (subst (λ (y : Walk). FilledB s tb y (inside s (two s read) (place y)) c.fill_map-i.result c.fill_map-i.new.table) c.enter-d-then-k-eq-OPEN_BRACE.ensures c.fill_map-i.ensures)
-    5 5 l.start 0 c.fill_close-then-k-eq-OPEN_BRACE.result c.fill_close-then-k-eq-OPEN_BRACE.new.table
-    (subst (λ (n : ℕ). FilledC s c.fill_map-i.new.table c.fill_map-i.result 5 w.count 5 n 0 c.fill_close-then-k-eq-OPEN_BRACE.result c.fill_close-then-k-eq-OPEN_BRACE.new.table) st c.fill_close-then-k-eq-OPEN_BRACE.ensures))
+    CloseBrace 5 l.start 0 c.fill_close-then-k-eq-OPEN_BRACE.result c.fill_close-then-k-eq-OPEN_BRACE.new.table
+    (subst (λ (n : ℕ). FilledC s c.fill_map-i.new.table c.fill_map-i.result CloseBrace w.count 5 n 0 c.fill_close-then-k-eq-OPEN_BRACE.result c.fill_close-then-k-eq-OPEN_BRACE.new.table) st c.fill_close-then-k-eq-OPEN_BRACE.ensures))
 
 pub fill_core-enter-d-requires-then-is_string : goal.fill_core-enter-d-requires-then-is_string
 fill_core-enter-d-requires-then-is_string t c = let s = c.args.text.now in
@@ -316,9 +317,9 @@ fill_core-returns-then-kind-eq-OPEN_PAREN t c = let s = c.args.text.now in
     subst (λ (z : Out Records). FilledB s tb w z c.fill_close-then-kind-eq-OPEN_PAREN.result c.fill_close-then-kind-eq-OPEN_PAREN.new.table) (sym (bare_string s read (place w) (λ z. c.if-k-eq-IDENTIFIER.false (k ∙ z)) (λ z. c.if-k-eq-NUMBER.false (k ∙ z)) (λ z. c.if-k-eq-OPEN_LIST.false (k ∙ z)) (λ z. c.if-k-eq-OPEN_BRACE.false (k ∙ z)) (sym (ap strings k) ∙ sym c.is_string.ensures ∙ c.if-is_string.true) ∙ string_variant s read (place w) (sym k2 ∙ c.if-kind-eq-OPEN_PAREN.true)))
     (fill_closed s tb w l2 (inside s (one s read) l2) c.fill_list-i-then-kind-eq-OPEN_PAREN.result c.fill_list-i-then-kind-eq-OPEN_PAREN.new.table
     (subst (λ (y : Walk). FilledB s tb y (inside s (one s read) (place y)) c.fill_list-i-then-kind-eq-OPEN_PAREN.result c.fill_list-i-then-kind-eq-OPEN_PAREN.new.table) ee c.fill_list-i-then-kind-eq-OPEN_PAREN.ensures)
-    7 6 l.start l.end c.fill_close-then-kind-eq-OPEN_PAREN.result c.fill_close-then-kind-eq-OPEN_PAREN.new.table
-    (subst (λ (n : ℕ). FilledC s c.fill_list-i-then-kind-eq-OPEN_PAREN.new.table c.fill_list-i-then-kind-eq-OPEN_PAREN.result 7 w.count 6 l.start n c.fill_close-then-kind-eq-OPEN_PAREN.result c.fill_close-then-kind-eq-OPEN_PAREN.new.table) (ap (λ (y : Walk). y.cursor.end) c.enter-d-then-is_string.ensures)
-    (subst (λ (n : ℕ). FilledC s c.fill_list-i-then-kind-eq-OPEN_PAREN.new.table c.fill_list-i-then-kind-eq-OPEN_PAREN.result 7 w.count 6 n c.enter-d-then-is_string.result.cursor.end c.fill_close-then-kind-eq-OPEN_PAREN.result c.fill_close-then-kind-eq-OPEN_PAREN.new.table) st c.fill_close-then-kind-eq-OPEN_PAREN.ensures)))
+    CloseParen 6 l.start l.end c.fill_close-then-kind-eq-OPEN_PAREN.result c.fill_close-then-kind-eq-OPEN_PAREN.new.table
+    (subst (λ (n : ℕ). FilledC s c.fill_list-i-then-kind-eq-OPEN_PAREN.new.table c.fill_list-i-then-kind-eq-OPEN_PAREN.result CloseParen w.count 6 l.start n c.fill_close-then-kind-eq-OPEN_PAREN.result c.fill_close-then-kind-eq-OPEN_PAREN.new.table) (ap (λ (y : Walk). y.cursor.end) c.enter-d-then-is_string.ensures)
+    (subst (λ (n : ℕ). FilledC s c.fill_list-i-then-kind-eq-OPEN_PAREN.new.table c.fill_list-i-then-kind-eq-OPEN_PAREN.result CloseParen w.count 6 n c.enter-d-then-is_string.result.cursor.end c.fill_close-then-kind-eq-OPEN_PAREN.result c.fill_close-then-kind-eq-OPEN_PAREN.new.table) st c.fill_close-then-kind-eq-OPEN_PAREN.ensures)))
 
 pub fill_core-put-requires-then-is_string : goal.fill_core-put-requires-then-is_string
 fill_core-put-requires-then-is_string t c = let s = c.args.text.now in
@@ -408,8 +409,8 @@ fill_list-fill_value-requires t c = let s = c.args.text.now in
     let pre = ran_is s (filling s) σ 7 q.bound β (filled_to s c.loop-table.table d (run s 7 (place d)) c.fill_comments-e.result c.fill_comments-e.new.table c.fill_comments-e.ensures) in
     (omega (arith, c.less.ensures, c.decreases), pre_ready s (filling s) read far σ q β pre)
 
-pub fill_list-returns-in-Stopped : goal.fill_list-returns-in-Stopped
-fill_list-returns-in-Stopped t c = let s = c.args.text.now in
+pub fill_list-returns-in-Err : goal.fill_list-returns-in-Err
+fill_list-returns-in-Err t c = let s = c.args.text.now in
     let tb = c.args.table.now in
     let w = c.args.w in
     let read = below c.args.depth s in
@@ -421,7 +422,7 @@ fill_list-returns-in-Stopped t c = let s = c.args.text.now in
     let b = c.fill_comments-e.result in
     let β = page b c.fill_comments-e.new.table in
     let pre = ran_is s (filling s) σ 7 q.bound β (filled_to s c.loop-table.table d (run s 7 (place d)) c.fill_comments-e.result c.fill_comments-e.new.table c.fill_comments-e.ensures) in
-    fills_refused s tb w (inside s (one s read) (place w)) _ c.in-Stopped.x (passed (passed (fill_stopped s c.fill_comments-e.new.table b _ c.fill_value.result c.fill_value.new.table c.fill_value.ensures c.in-Stopped.is) (λ r p h. sym (ap (λ (j : ℕ). reader j s (place b)) c.less.ensures ∙ below_less c.args.depth s (place b)) ∙ h)) (λ r p h. inside_stop s (filling s) (one s read) (page w tb) c.requires σ c.loop-table.invariant e (one_stop s (filling s) read far σ q β pre h)))
+    fills_refused s tb w (inside s (one s read) (place w)) _ c.in-Err.x (passed (passed (fill_stopped s c.fill_comments-e.new.table b _ c.fill_value.result c.fill_value.new.table c.fill_value.ensures c.in-Err.is) (λ r p h. sym (ap (λ (j : ℕ). reader j s (place b)) c.less.ensures ∙ below_less c.args.depth s (place b)) ∙ h)) (λ r p h. inside_stop s (filling s) (one s read) (page w tb) c.requires σ c.loop-table.invariant e (one_stop s (filling s) read far σ q β pre h)))
 
 pub fill_list-fill_settle-d-requires : goal.fill_list-fill_settle-d-requires
 fill_list-fill_settle-d-requires t c = let s = c.args.text.now in
@@ -435,8 +436,8 @@ fill_list-fill_settle-d-requires t c = let s = c.args.text.now in
     let b = c.fill_comments-e.result in
     let β = page b c.fill_comments-e.new.table in
     let pre = ran_is s (filling s) σ 7 q.bound β (filled_to s c.loop-table.table d (run s 7 (place d)) c.fill_comments-e.result c.fill_comments-e.new.table c.fill_comments-e.ensures) in
-    let v = fill_value s c.fill_comments-e.new.table b (read (place b)) c.fill_value.result c.fill_value.new.table (subst (λ (z : Out Item). FilledI s c.fill_comments-e.new.table b z c.fill_value.result c.fill_value.new.table) (ap (λ (j : ℕ). reader j s (place b)) c.less.ensures ∙ below_less c.args.depth s (place b)) c.fill_value.ensures) c.in-Value.is in
-    value_ready s (filling s) read far σ q β pre (page c.in-Value.x c.fill_value.new.table) c.in-Value.from v
+    let v = fill_value s c.fill_comments-e.new.table b (read (place b)) c.fill_value.result c.fill_value.new.table (subst (λ (z : Out Item). FilledI s c.fill_comments-e.new.table b z c.fill_value.result c.fill_value.new.table) (ap (λ (j : ℕ). reader j s (place b)) c.less.ensures ∙ below_less c.args.depth s (place b)) c.fill_value.ensures) c.in-Ok.is in
+    value_ready s (filling s) read far σ q β pre (page c.in-Ok.x.walk c.fill_value.new.table) c.in-Ok.x.from v
 
 pub fill_list-loop-table-smaller : goal.fill_list-loop-table-smaller
 fill_list-loop-table-smaller t c = let s = c.args.text.now in
@@ -451,8 +452,8 @@ fill_list-loop-table-smaller t c = let s = c.args.text.now in
     let b = c.fill_comments-e.result in
     let β = page b c.fill_comments-e.new.table in
     let pre = ran_is s (filling s) σ 7 q.bound β (filled_to s c.loop-table.table d (run s 7 (place d)) c.fill_comments-e.result c.fill_comments-e.new.table c.fill_comments-e.ensures) in
-    let v = fill_value s c.fill_comments-e.new.table b (read (place b)) c.fill_value.result c.fill_value.new.table (subst (λ (z : Out Item). FilledI s c.fill_comments-e.new.table b z c.fill_value.result c.fill_value.new.table) (ap (λ (j : ℕ). reader j s (place b)) c.less.ensures ∙ below_less c.args.depth s (place b)) c.fill_value.ensures) c.in-Value.is in
-    let t = one_next s (filling s) read far σ q β pre (page c.in-Value.x c.fill_value.new.table) c.in-Value.from v (page c.fill_settle-d.result c.fill_settle-d.new.table) (settled_to s c.fill_value.new.table c.in-Value.x c.in-Value.from c.fill_settle-d.result c.fill_settle-d.new.table c.fill_settle-d.ensures) in
+    let v = fill_value s c.fill_comments-e.new.table b (read (place b)) c.fill_value.result c.fill_value.new.table (subst (λ (z : Out Item). FilledI s c.fill_comments-e.new.table b z c.fill_value.result c.fill_value.new.table) (ap (λ (j : ℕ). reader j s (place b)) c.less.ensures ∙ below_less c.args.depth s (place b)) c.fill_value.ensures) c.in-Ok.is in
+    let t = one_next s (filling s) read far σ q β pre (page c.in-Ok.x.walk c.fill_value.new.table) c.in-Ok.x.from v (page c.fill_settle-d.result c.fill_settle-d.new.table) (settled_to s c.fill_value.new.table c.in-Ok.x.walk c.in-Ok.x.from c.fill_settle-d.result c.fill_settle-d.new.table c.fill_settle-d.ensures) in
     let k = inv_turn s (filling s) (stops s) (one s read) (page w tb) c.requires σ c.loop-table.invariant e t.is t.so.1 (page c.fill_settle-d.result c.fill_settle-d.new.table) t.so.0 in omega (arith, k.1, k.2)
 
 pub fill_list-loop-table-preserved : goal.fill_list-loop-table-preserved
@@ -468,8 +469,8 @@ fill_list-loop-table-preserved t c = let s = c.args.text.now in
     let b = c.fill_comments-e.result in
     let β = page b c.fill_comments-e.new.table in
     let pre = ran_is s (filling s) σ 7 q.bound β (filled_to s c.loop-table.table d (run s 7 (place d)) c.fill_comments-e.result c.fill_comments-e.new.table c.fill_comments-e.ensures) in
-    let v = fill_value s c.fill_comments-e.new.table b (read (place b)) c.fill_value.result c.fill_value.new.table (subst (λ (z : Out Item). FilledI s c.fill_comments-e.new.table b z c.fill_value.result c.fill_value.new.table) (ap (λ (j : ℕ). reader j s (place b)) c.less.ensures ∙ below_less c.args.depth s (place b)) c.fill_value.ensures) c.in-Value.is in
-    let t = one_next s (filling s) read far σ q β pre (page c.in-Value.x c.fill_value.new.table) c.in-Value.from v (page c.fill_settle-d.result c.fill_settle-d.new.table) (settled_to s c.fill_value.new.table c.in-Value.x c.in-Value.from c.fill_settle-d.result c.fill_settle-d.new.table c.fill_settle-d.ensures) in
+    let v = fill_value s c.fill_comments-e.new.table b (read (place b)) c.fill_value.result c.fill_value.new.table (subst (λ (z : Out Item). FilledI s c.fill_comments-e.new.table b z c.fill_value.result c.fill_value.new.table) (ap (λ (j : ℕ). reader j s (place b)) c.less.ensures ∙ below_less c.args.depth s (place b)) c.fill_value.ensures) c.in-Ok.is in
+    let t = one_next s (filling s) read far σ q β pre (page c.in-Ok.x.walk c.fill_value.new.table) c.in-Ok.x.from v (page c.fill_settle-d.result c.fill_settle-d.new.table) (settled_to s c.fill_value.new.table c.in-Ok.x.walk c.in-Ok.x.from c.fill_settle-d.result c.fill_settle-d.new.table c.fill_settle-d.ensures) in
     (inv_turn s (filling s) (stops s) (one s read) (page w tb) c.requires σ c.loop-table.invariant e t.is t.so.1 (page c.fill_settle-d.result c.fill_settle-d.new.table) t.so.0).0
 
 pub fill_list-fill_comments-f-requires : goal.fill_list-fill_comments-f-requires
@@ -542,8 +543,8 @@ fill_map-fill_value-requires t c = let s = c.args.text.now in
     let pre = ran_is s (filling s) σ 7 q.bound β (filled_to s c.loop-table.table d (run s 7 (place d)) c.fill_comments-e.result c.fill_comments-e.new.table c.fill_comments-e.ensures) in
     (omega (arith, c.less.ensures, c.decreases), pre_ready s (filling s) read far σ q β pre)
 
-pub fill_map-returns-in-Stopped : goal.fill_map-returns-in-Stopped
-fill_map-returns-in-Stopped t c = let s = c.args.text.now in
+pub fill_map-returns-in-Err : goal.fill_map-returns-in-Err
+fill_map-returns-in-Err t c = let s = c.args.text.now in
     let tb = c.args.table.now in
     let w = c.args.w in
     let read = below c.args.depth s in
@@ -555,7 +556,7 @@ fill_map-returns-in-Stopped t c = let s = c.args.text.now in
     let b = c.fill_comments-e.result in
     let β = page b c.fill_comments-e.new.table in
     let pre = ran_is s (filling s) σ 7 q.bound β (filled_to s c.loop-table.table d (run s 7 (place d)) c.fill_comments-e.result c.fill_comments-e.new.table c.fill_comments-e.ensures) in
-    fills_refused s tb w (inside s (two s read) (place w)) _ c.in-Stopped.x (passed (passed (fill_stopped s c.fill_comments-e.new.table b _ c.fill_value.result c.fill_value.new.table c.fill_value.ensures c.in-Stopped.is) (λ r p h. sym (ap (λ (j : ℕ). reader j s (place b)) c.less.ensures ∙ below_less c.args.depth s (place b)) ∙ h)) (λ r p h. inside_stop s (filling s) (two s read) (page w tb) c.requires σ c.loop-table.invariant e (two_stop s (filling s) read far σ q β pre h)))
+    fills_refused s tb w (inside s (two s read) (place w)) _ c.in-Err.x (passed (passed (fill_stopped s c.fill_comments-e.new.table b _ c.fill_value.result c.fill_value.new.table c.fill_value.ensures c.in-Err.is) (λ r p h. sym (ap (λ (j : ℕ). reader j s (place b)) c.less.ensures ∙ below_less c.args.depth s (place b)) ∙ h)) (λ r p h. inside_stop s (filling s) (two s read) (page w tb) c.requires σ c.loop-table.invariant e (two_stop s (filling s) read far σ q β pre h)))
 
 pub fill_map-fill_tail-y-requires : goal.fill_map-fill_tail-y-requires
 fill_map-fill_tail-y-requires t c = let s = c.args.text.now in
@@ -569,8 +570,8 @@ fill_map-fill_tail-y-requires t c = let s = c.args.text.now in
     let b = c.fill_comments-e.result in
     let β = page b c.fill_comments-e.new.table in
     let pre = ran_is s (filling s) σ 7 q.bound β (filled_to s c.loop-table.table d (run s 7 (place d)) c.fill_comments-e.result c.fill_comments-e.new.table c.fill_comments-e.ensures) in
-    let v = fill_value s c.fill_comments-e.new.table b (read (place b)) c.fill_value.result c.fill_value.new.table (subst (λ (z : Out Item). FilledI s c.fill_comments-e.new.table b z c.fill_value.result c.fill_value.new.table) (ap (λ (j : ℕ). reader j s (place b)) c.less.ensures ∙ below_less c.args.depth s (place b)) c.fill_value.ensures) c.in-Value.is in
-    let xr = value_ready s (filling s) read far σ q β pre (page c.in-Value.x c.fill_value.new.table) c.in-Value.from v in
+    let v = fill_value s c.fill_comments-e.new.table b (read (place b)) c.fill_value.result c.fill_value.new.table (subst (λ (z : Out Item). FilledI s c.fill_comments-e.new.table b z c.fill_value.result c.fill_value.new.table) (ap (λ (j : ℕ). reader j s (place b)) c.less.ensures ∙ below_less c.args.depth s (place b)) c.fill_value.ensures) c.in-Ok.is in
+    let xr = value_ready s (filling s) read far σ q β pre (page c.in-Ok.x.walk c.fill_value.new.table) c.in-Ok.x.from v in
     omega (arith, xr.few, xr.bound.within, xr.bound.order, xr.short)
 
 pub fill_map-must-requires : goal.fill_map-must-requires
@@ -585,17 +586,17 @@ fill_map-must-requires t c = let s = c.args.text.now in
     let b = c.fill_comments-e.result in
     let β = page b c.fill_comments-e.new.table in
     let pre = ran_is s (filling s) σ 7 q.bound β (filled_to s c.loop-table.table d (run s 7 (place d)) c.fill_comments-e.result c.fill_comments-e.new.table c.fill_comments-e.ensures) in
-    let v = fill_value s c.fill_comments-e.new.table b (read (place b)) c.fill_value.result c.fill_value.new.table (subst (λ (z : Out Item). FilledI s c.fill_comments-e.new.table b z c.fill_value.result c.fill_value.new.table) (ap (λ (j : ℕ). reader j s (place b)) c.less.ensures ∙ below_less c.args.depth s (place b)) c.fill_value.ensures) c.in-Value.is in
-    let xr = value_ready s (filling s) read far σ q β pre (page c.in-Value.x c.fill_value.new.table) c.in-Value.from v in
+    let v = fill_value s c.fill_comments-e.new.table b (read (place b)) c.fill_value.result c.fill_value.new.table (subst (λ (z : Out Item). FilledI s c.fill_comments-e.new.table b z c.fill_value.result c.fill_value.new.table) (ap (λ (j : ℕ). reader j s (place b)) c.less.ensures ∙ below_less c.args.depth s (place b)) c.fill_value.ensures) c.in-Ok.is in
+    let xr = value_ready s (filling s) read far σ q β pre (page c.in-Ok.x.walk c.fill_value.new.table) c.in-Ok.x.from v in
     let y = c.fill_tail-y.result in
     let υ = page y c.fill_tail-y.new.table in
-    let tl = tail_r c.in-Value.from (place c.in-Value.x) in
-    let te : υ ≡ (filling s).emit (page c.in-Value.x c.fill_value.new.table) tl (place c.in-Value.x) =
-    both (c.fill_tail-y.ensures.0 ∙ ap (λ (k : Cursor). record { cursor = k; count = c.in-Value.x.count + length tl; same = c.in-Value.x.same }) xr.fresh) c.fill_tail-y.ensures.1 in
-    key_ready s (filling s) read far σ q β pre (page c.in-Value.x c.fill_value.new.table) c.in-Value.from v υ te
+    let tl = tail_r c.in-Ok.x.from (place c.in-Ok.x.walk) in
+    let te : υ ≡ (filling s).emit (page c.in-Ok.x.walk c.fill_value.new.table) tl (place c.in-Ok.x.walk) =
+    both (c.fill_tail-y.ensures.0 ∙ ap (λ (k : Cursor). record { cursor = k; count = c.in-Ok.x.walk.count + length tl; same = c.in-Ok.x.walk.same }) xr.fresh) c.fill_tail-y.ensures.1 in
+    key_ready s (filling s) read far σ q β pre (page c.in-Ok.x.walk c.fill_value.new.table) c.in-Ok.x.from v υ te
 
-pub fill_map-returns-in-Refused : goal.fill_map-returns-in-Refused
-fill_map-returns-in-Refused t c = let s = c.args.text.now in
+pub fill_map-returns-in-Err-must : goal.fill_map-returns-in-Err-must
+fill_map-returns-in-Err-must t c = let s = c.args.text.now in
     let tb = c.args.table.now in
     let w = c.args.w in
     let read = below c.args.depth s in
@@ -607,17 +608,17 @@ fill_map-returns-in-Refused t c = let s = c.args.text.now in
     let b = c.fill_comments-e.result in
     let β = page b c.fill_comments-e.new.table in
     let pre = ran_is s (filling s) σ 7 q.bound β (filled_to s c.loop-table.table d (run s 7 (place d)) c.fill_comments-e.result c.fill_comments-e.new.table c.fill_comments-e.ensures) in
-    let v = fill_value s c.fill_comments-e.new.table b (read (place b)) c.fill_value.result c.fill_value.new.table (subst (λ (z : Out Item). FilledI s c.fill_comments-e.new.table b z c.fill_value.result c.fill_value.new.table) (ap (λ (j : ℕ). reader j s (place b)) c.less.ensures ∙ below_less c.args.depth s (place b)) c.fill_value.ensures) c.in-Value.is in
-    let xr = value_ready s (filling s) read far σ q β pre (page c.in-Value.x c.fill_value.new.table) c.in-Value.from v in
+    let v = fill_value s c.fill_comments-e.new.table b (read (place b)) c.fill_value.result c.fill_value.new.table (subst (λ (z : Out Item). FilledI s c.fill_comments-e.new.table b z c.fill_value.result c.fill_value.new.table) (ap (λ (j : ℕ). reader j s (place b)) c.less.ensures ∙ below_less c.args.depth s (place b)) c.fill_value.ensures) c.in-Ok.is in
+    let xr = value_ready s (filling s) read far σ q β pre (page c.in-Ok.x.walk c.fill_value.new.table) c.in-Ok.x.from v in
     let y = c.fill_tail-y.result in
     let υ = page y c.fill_tail-y.new.table in
-    let tl = tail_r c.in-Value.from (place c.in-Value.x) in
-    let te : υ ≡ (filling s).emit (page c.in-Value.x c.fill_value.new.table) tl (place c.in-Value.x) =
-    both (c.fill_tail-y.ensures.0 ∙ ap (λ (k : Cursor). record { cursor = k; count = c.in-Value.x.count + length tl; same = c.in-Value.x.same }) xr.fresh) c.fill_tail-y.ensures.1 in
-    fills_refused s tb w (inside s (two s read) (place w)) _ c.in-Refused.n (passed (not_expected s y (expect s 8 (place y)) (sym c.must.ensures ∙ c.in-Refused.is)) (λ r p h. inside_stop s (filling s) (two s read) (page w tb) c.requires σ c.loop-table.invariant e (colon_stop s (filling s) read far σ q β pre (page c.in-Value.x c.fill_value.new.table) c.in-Value.from v υ te h)))
+    let tl = tail_r c.in-Ok.x.from (place c.in-Ok.x.walk) in
+    let te : υ ≡ (filling s).emit (page c.in-Ok.x.walk c.fill_value.new.table) tl (place c.in-Ok.x.walk) =
+    both (c.fill_tail-y.ensures.0 ∙ ap (λ (k : Cursor). record { cursor = k; count = c.in-Ok.x.walk.count + length tl; same = c.in-Ok.x.walk.same }) xr.fresh) c.fill_tail-y.ensures.1 in
+    fills_refused s tb w (inside s (two s read) (place w)) _ c.in-Err-must.n (passed (not_expected s y (expect s Colon (place y)) (sym c.must.ensures ∙ c.in-Err-must.is)) (λ r p h. inside_stop s (filling s) (two s read) (page w tb) c.requires σ c.loop-table.invariant e (colon_stop s (filling s) read far σ q β pre (page c.in-Ok.x.walk c.fill_value.new.table) c.in-Ok.x.from v υ te h)))
 
-pub fill_map-fill_value-requires-in-Done : goal.fill_map-fill_value-requires-in-Done
-fill_map-fill_value-requires-in-Done t c = let s = c.args.text.now in
+pub fill_map-fill_value-requires-in-Ok-must : goal.fill_map-fill_value-requires-in-Ok-must
+fill_map-fill_value-requires-in-Ok-must t c = let s = c.args.text.now in
     let tb = c.args.table.now in
     let w = c.args.w in
     let read = below c.args.depth s in
@@ -628,21 +629,21 @@ fill_map-fill_value-requires-in-Done t c = let s = c.args.text.now in
     let b = c.fill_comments-e.result in
     let β = page b c.fill_comments-e.new.table in
     let pre = ran_is s (filling s) σ 7 q.bound β (filled_to s c.loop-table.table d (run s 7 (place d)) c.fill_comments-e.result c.fill_comments-e.new.table c.fill_comments-e.ensures) in
-    let v = fill_value s c.fill_comments-e.new.table b (read (place b)) c.fill_value.result c.fill_value.new.table (subst (λ (z : Out Item). FilledI s c.fill_comments-e.new.table b z c.fill_value.result c.fill_value.new.table) (ap (λ (j : ℕ). reader j s (place b)) c.less.ensures ∙ below_less c.args.depth s (place b)) c.fill_value.ensures) c.in-Value.is in
-    let xr = value_ready s (filling s) read far σ q β pre (page c.in-Value.x c.fill_value.new.table) c.in-Value.from v in
+    let v = fill_value s c.fill_comments-e.new.table b (read (place b)) c.fill_value.result c.fill_value.new.table (subst (λ (z : Out Item). FilledI s c.fill_comments-e.new.table b z c.fill_value.result c.fill_value.new.table) (ap (λ (j : ℕ). reader j s (place b)) c.less.ensures ∙ below_less c.args.depth s (place b)) c.fill_value.ensures) c.in-Ok.is in
+    let xr = value_ready s (filling s) read far σ q β pre (page c.in-Ok.x.walk c.fill_value.new.table) c.in-Ok.x.from v in
     let y = c.fill_tail-y.result in
     let υ = page y c.fill_tail-y.new.table in
-    let tl = tail_r c.in-Value.from (place c.in-Value.x) in
-    let te : υ ≡ (filling s).emit (page c.in-Value.x c.fill_value.new.table) tl (place c.in-Value.x) =
-    both (c.fill_tail-y.ensures.0 ∙ ap (λ (k : Cursor). record { cursor = k; count = c.in-Value.x.count + length tl; same = c.in-Value.x.same }) xr.fresh) c.fill_tail-y.ensures.1 in
-    let z₀ = was_expected s y (expect s 8 (place y)) (sym c.must.ensures ∙ c.in-Done.is) in
-    let g = c.in-Done.z in
+    let tl = tail_r c.in-Ok.x.from (place c.in-Ok.x.walk) in
+    let te : υ ≡ (filling s).emit (page c.in-Ok.x.walk c.fill_value.new.table) tl (place c.in-Ok.x.walk) =
+    both (c.fill_tail-y.ensures.0 ∙ ap (λ (k : Cursor). record { cursor = k; count = c.in-Ok.x.walk.count + length tl; same = c.in-Ok.x.walk.same }) xr.fresh) c.fill_tail-y.ensures.1 in
+    let z₀ = was_expected s y (expect s Colon (place y)) (sym c.must.ensures ∙ c.in-Ok-must.is) in
+    let g = c.in-Ok-must.z in
     let γ = page g c.fill_tail-y.new.table in
-    let z : Came (expect s 8 (place y)) (λ u n. γ ≡ (filling s).moved υ n) = record { what = z₀.what; next = z₀.next; is = z₀.is; so = ap (λ (k : Walk). page k c.fill_tail-y.new.table) z₀.so } in
-    (omega (arith, c.less-in-Done.ensures, c.decreases), colon_ready s (filling s) read far σ q β pre (page c.in-Value.x c.fill_value.new.table) c.in-Value.from v υ te γ z)
+    let z : Came (expect s Colon (place y)) (λ u n. γ ≡ (filling s).moved υ n) = record { what = z₀.what; next = z₀.next; is = z₀.is; so = ap (λ (k : Walk). page k c.fill_tail-y.new.table) z₀.so } in
+    (omega (arith, c.less-in-Ok-must.ensures, c.decreases), colon_ready s (filling s) read far σ q β pre (page c.in-Ok.x.walk c.fill_value.new.table) c.in-Ok.x.from v υ te γ z)
 
-pub fill_map-returns-in-Stopped-fill_value : goal.fill_map-returns-in-Stopped-fill_value
-fill_map-returns-in-Stopped-fill_value t c = let s = c.args.text.now in
+pub fill_map-returns-in-Err-fill_value : goal.fill_map-returns-in-Err-fill_value
+fill_map-returns-in-Err-fill_value t c = let s = c.args.text.now in
     let tb = c.args.table.now in
     let w = c.args.w in
     let read = below c.args.depth s in
@@ -654,18 +655,18 @@ fill_map-returns-in-Stopped-fill_value t c = let s = c.args.text.now in
     let b = c.fill_comments-e.result in
     let β = page b c.fill_comments-e.new.table in
     let pre = ran_is s (filling s) σ 7 q.bound β (filled_to s c.loop-table.table d (run s 7 (place d)) c.fill_comments-e.result c.fill_comments-e.new.table c.fill_comments-e.ensures) in
-    let v = fill_value s c.fill_comments-e.new.table b (read (place b)) c.fill_value.result c.fill_value.new.table (subst (λ (z : Out Item). FilledI s c.fill_comments-e.new.table b z c.fill_value.result c.fill_value.new.table) (ap (λ (j : ℕ). reader j s (place b)) c.less.ensures ∙ below_less c.args.depth s (place b)) c.fill_value.ensures) c.in-Value.is in
-    let xr = value_ready s (filling s) read far σ q β pre (page c.in-Value.x c.fill_value.new.table) c.in-Value.from v in
+    let v = fill_value s c.fill_comments-e.new.table b (read (place b)) c.fill_value.result c.fill_value.new.table (subst (λ (z : Out Item). FilledI s c.fill_comments-e.new.table b z c.fill_value.result c.fill_value.new.table) (ap (λ (j : ℕ). reader j s (place b)) c.less.ensures ∙ below_less c.args.depth s (place b)) c.fill_value.ensures) c.in-Ok.is in
+    let xr = value_ready s (filling s) read far σ q β pre (page c.in-Ok.x.walk c.fill_value.new.table) c.in-Ok.x.from v in
     let y = c.fill_tail-y.result in
     let υ = page y c.fill_tail-y.new.table in
-    let tl = tail_r c.in-Value.from (place c.in-Value.x) in
-    let te : υ ≡ (filling s).emit (page c.in-Value.x c.fill_value.new.table) tl (place c.in-Value.x) =
-    both (c.fill_tail-y.ensures.0 ∙ ap (λ (k : Cursor). record { cursor = k; count = c.in-Value.x.count + length tl; same = c.in-Value.x.same }) xr.fresh) c.fill_tail-y.ensures.1 in
-    let z₀ = was_expected s y (expect s 8 (place y)) (sym c.must.ensures ∙ c.in-Done.is) in
-    let g = c.in-Done.z in
+    let tl = tail_r c.in-Ok.x.from (place c.in-Ok.x.walk) in
+    let te : υ ≡ (filling s).emit (page c.in-Ok.x.walk c.fill_value.new.table) tl (place c.in-Ok.x.walk) =
+    both (c.fill_tail-y.ensures.0 ∙ ap (λ (k : Cursor). record { cursor = k; count = c.in-Ok.x.walk.count + length tl; same = c.in-Ok.x.walk.same }) xr.fresh) c.fill_tail-y.ensures.1 in
+    let z₀ = was_expected s y (expect s Colon (place y)) (sym c.must.ensures ∙ c.in-Ok-must.is) in
+    let g = c.in-Ok-must.z in
     let γ = page g c.fill_tail-y.new.table in
-    let z : Came (expect s 8 (place y)) (λ u n. γ ≡ (filling s).moved υ n) = record { what = z₀.what; next = z₀.next; is = z₀.is; so = ap (λ (k : Walk). page k c.fill_tail-y.new.table) z₀.so } in
-    fills_refused s tb w (inside s (two s read) (place w)) _ c.in-Stopped-fill_value.n (passed (passed (fill_stopped s c.fill_tail-y.new.table g _ c.fill_value-in-Done.result c.fill_value-in-Done.new.table c.fill_value-in-Done.ensures c.in-Stopped-fill_value.is) (λ r p h. sym (ap (λ (j : ℕ). reader j s (place g)) c.less-in-Done.ensures ∙ below_less c.args.depth s (place g)) ∙ h)) (λ r p h. inside_stop s (filling s) (two s read) (page w tb) c.requires σ c.loop-table.invariant e (value_stop s (filling s) read far σ q β pre (page c.in-Value.x c.fill_value.new.table) c.in-Value.from v υ te γ z h)))
+    let z : Came (expect s Colon (place y)) (λ u n. γ ≡ (filling s).moved υ n) = record { what = z₀.what; next = z₀.next; is = z₀.is; so = ap (λ (k : Walk). page k c.fill_tail-y.new.table) z₀.so } in
+    fills_refused s tb w (inside s (two s read) (place w)) _ c.in-Err-fill_value.n (passed (passed (fill_stopped s c.fill_tail-y.new.table g _ c.fill_value-in-Ok-must.result c.fill_value-in-Ok-must.new.table c.fill_value-in-Ok-must.ensures c.in-Err-fill_value.is) (λ r p h. sym (ap (λ (j : ℕ). reader j s (place g)) c.less-in-Ok-must.ensures ∙ below_less c.args.depth s (place g)) ∙ h)) (λ r p h. inside_stop s (filling s) (two s read) (page w tb) c.requires σ c.loop-table.invariant e (value_stop s (filling s) read far σ q β pre (page c.in-Ok.x.walk c.fill_value.new.table) c.in-Ok.x.from v υ te γ z h)))
 
 pub fill_map-fill_settle-d-requires : goal.fill_map-fill_settle-d-requires
 fill_map-fill_settle-d-requires t c = let s = c.args.text.now in
@@ -679,19 +680,19 @@ fill_map-fill_settle-d-requires t c = let s = c.args.text.now in
     let b = c.fill_comments-e.result in
     let β = page b c.fill_comments-e.new.table in
     let pre = ran_is s (filling s) σ 7 q.bound β (filled_to s c.loop-table.table d (run s 7 (place d)) c.fill_comments-e.result c.fill_comments-e.new.table c.fill_comments-e.ensures) in
-    let v = fill_value s c.fill_comments-e.new.table b (read (place b)) c.fill_value.result c.fill_value.new.table (subst (λ (z : Out Item). FilledI s c.fill_comments-e.new.table b z c.fill_value.result c.fill_value.new.table) (ap (λ (j : ℕ). reader j s (place b)) c.less.ensures ∙ below_less c.args.depth s (place b)) c.fill_value.ensures) c.in-Value.is in
-    let xr = value_ready s (filling s) read far σ q β pre (page c.in-Value.x c.fill_value.new.table) c.in-Value.from v in
+    let v = fill_value s c.fill_comments-e.new.table b (read (place b)) c.fill_value.result c.fill_value.new.table (subst (λ (z : Out Item). FilledI s c.fill_comments-e.new.table b z c.fill_value.result c.fill_value.new.table) (ap (λ (j : ℕ). reader j s (place b)) c.less.ensures ∙ below_less c.args.depth s (place b)) c.fill_value.ensures) c.in-Ok.is in
+    let xr = value_ready s (filling s) read far σ q β pre (page c.in-Ok.x.walk c.fill_value.new.table) c.in-Ok.x.from v in
     let y = c.fill_tail-y.result in
     let υ = page y c.fill_tail-y.new.table in
-    let tl = tail_r c.in-Value.from (place c.in-Value.x) in
-    let te : υ ≡ (filling s).emit (page c.in-Value.x c.fill_value.new.table) tl (place c.in-Value.x) =
-    both (c.fill_tail-y.ensures.0 ∙ ap (λ (k : Cursor). record { cursor = k; count = c.in-Value.x.count + length tl; same = c.in-Value.x.same }) xr.fresh) c.fill_tail-y.ensures.1 in
-    let z₀ = was_expected s y (expect s 8 (place y)) (sym c.must.ensures ∙ c.in-Done.is) in
-    let g = c.in-Done.z in
+    let tl = tail_r c.in-Ok.x.from (place c.in-Ok.x.walk) in
+    let te : υ ≡ (filling s).emit (page c.in-Ok.x.walk c.fill_value.new.table) tl (place c.in-Ok.x.walk) =
+    both (c.fill_tail-y.ensures.0 ∙ ap (λ (k : Cursor). record { cursor = k; count = c.in-Ok.x.walk.count + length tl; same = c.in-Ok.x.walk.same }) xr.fresh) c.fill_tail-y.ensures.1 in
+    let z₀ = was_expected s y (expect s Colon (place y)) (sym c.must.ensures ∙ c.in-Ok-must.is) in
+    let g = c.in-Ok-must.z in
     let γ = page g c.fill_tail-y.new.table in
-    let z : Came (expect s 8 (place y)) (λ u n. γ ≡ (filling s).moved υ n) = record { what = z₀.what; next = z₀.next; is = z₀.is; so = ap (λ (k : Walk). page k c.fill_tail-y.new.table) z₀.so } in
-    let u = fill_value s c.fill_tail-y.new.table g (read (place g)) c.fill_value-in-Done.result c.fill_value-in-Done.new.table (subst (λ (z : Out Item). FilledI s c.fill_tail-y.new.table g z c.fill_value-in-Done.result c.fill_value-in-Done.new.table) (ap (λ (j : ℕ). reader j s (place g)) c.less-in-Done.ensures ∙ below_less c.args.depth s (place g)) c.fill_value-in-Done.ensures) c.in-Value-fill_value.is in
-    second_ready s (filling s) read far σ q β pre (page c.in-Value.x c.fill_value.new.table) c.in-Value.from v υ te γ z (page c.in-Value-fill_value.v c.fill_value-in-Done.new.table) c.in-Value-fill_value.since u
+    let z : Came (expect s Colon (place y)) (λ u n. γ ≡ (filling s).moved υ n) = record { what = z₀.what; next = z₀.next; is = z₀.is; so = ap (λ (k : Walk). page k c.fill_tail-y.new.table) z₀.so } in
+    let u = fill_value s c.fill_tail-y.new.table g (read (place g)) c.fill_value-in-Ok-must.result c.fill_value-in-Ok-must.new.table (subst (λ (z : Out Item). FilledI s c.fill_tail-y.new.table g z c.fill_value-in-Ok-must.result c.fill_value-in-Ok-must.new.table) (ap (λ (j : ℕ). reader j s (place g)) c.less-in-Ok-must.ensures ∙ below_less c.args.depth s (place g)) c.fill_value-in-Ok-must.ensures) c.in-Ok-fill_value.is in
+    second_ready s (filling s) read far σ q β pre (page c.in-Ok.x.walk c.fill_value.new.table) c.in-Ok.x.from v υ te γ z (page c.in-Ok-fill_value.v.walk c.fill_value-in-Ok-must.new.table) c.in-Ok-fill_value.v.from u
 
 pub fill_map-loop-table-smaller : goal.fill_map-loop-table-smaller
 fill_map-loop-table-smaller t c = let s = c.args.text.now in
@@ -706,19 +707,19 @@ fill_map-loop-table-smaller t c = let s = c.args.text.now in
     let b = c.fill_comments-e.result in
     let β = page b c.fill_comments-e.new.table in
     let pre = ran_is s (filling s) σ 7 q.bound β (filled_to s c.loop-table.table d (run s 7 (place d)) c.fill_comments-e.result c.fill_comments-e.new.table c.fill_comments-e.ensures) in
-    let v = fill_value s c.fill_comments-e.new.table b (read (place b)) c.fill_value.result c.fill_value.new.table (subst (λ (z : Out Item). FilledI s c.fill_comments-e.new.table b z c.fill_value.result c.fill_value.new.table) (ap (λ (j : ℕ). reader j s (place b)) c.less.ensures ∙ below_less c.args.depth s (place b)) c.fill_value.ensures) c.in-Value.is in
-    let xr = value_ready s (filling s) read far σ q β pre (page c.in-Value.x c.fill_value.new.table) c.in-Value.from v in
+    let v = fill_value s c.fill_comments-e.new.table b (read (place b)) c.fill_value.result c.fill_value.new.table (subst (λ (z : Out Item). FilledI s c.fill_comments-e.new.table b z c.fill_value.result c.fill_value.new.table) (ap (λ (j : ℕ). reader j s (place b)) c.less.ensures ∙ below_less c.args.depth s (place b)) c.fill_value.ensures) c.in-Ok.is in
+    let xr = value_ready s (filling s) read far σ q β pre (page c.in-Ok.x.walk c.fill_value.new.table) c.in-Ok.x.from v in
     let y = c.fill_tail-y.result in
     let υ = page y c.fill_tail-y.new.table in
-    let tl = tail_r c.in-Value.from (place c.in-Value.x) in
-    let te : υ ≡ (filling s).emit (page c.in-Value.x c.fill_value.new.table) tl (place c.in-Value.x) =
-    both (c.fill_tail-y.ensures.0 ∙ ap (λ (k : Cursor). record { cursor = k; count = c.in-Value.x.count + length tl; same = c.in-Value.x.same }) xr.fresh) c.fill_tail-y.ensures.1 in
-    let z₀ = was_expected s y (expect s 8 (place y)) (sym c.must.ensures ∙ c.in-Done.is) in
-    let g = c.in-Done.z in
+    let tl = tail_r c.in-Ok.x.from (place c.in-Ok.x.walk) in
+    let te : υ ≡ (filling s).emit (page c.in-Ok.x.walk c.fill_value.new.table) tl (place c.in-Ok.x.walk) =
+    both (c.fill_tail-y.ensures.0 ∙ ap (λ (k : Cursor). record { cursor = k; count = c.in-Ok.x.walk.count + length tl; same = c.in-Ok.x.walk.same }) xr.fresh) c.fill_tail-y.ensures.1 in
+    let z₀ = was_expected s y (expect s Colon (place y)) (sym c.must.ensures ∙ c.in-Ok-must.is) in
+    let g = c.in-Ok-must.z in
     let γ = page g c.fill_tail-y.new.table in
-    let z : Came (expect s 8 (place y)) (λ u n. γ ≡ (filling s).moved υ n) = record { what = z₀.what; next = z₀.next; is = z₀.is; so = ap (λ (k : Walk). page k c.fill_tail-y.new.table) z₀.so } in
-    let u = fill_value s c.fill_tail-y.new.table g (read (place g)) c.fill_value-in-Done.result c.fill_value-in-Done.new.table (subst (λ (z : Out Item). FilledI s c.fill_tail-y.new.table g z c.fill_value-in-Done.result c.fill_value-in-Done.new.table) (ap (λ (j : ℕ). reader j s (place g)) c.less-in-Done.ensures ∙ below_less c.args.depth s (place g)) c.fill_value-in-Done.ensures) c.in-Value-fill_value.is in
-    let t = two_next s (filling s) read far σ q β pre (page c.in-Value.x c.fill_value.new.table) c.in-Value.from v υ te γ z (page c.in-Value-fill_value.v c.fill_value-in-Done.new.table) c.in-Value-fill_value.since u (page c.fill_settle-d.result c.fill_settle-d.new.table) (settled_to s c.fill_value-in-Done.new.table c.in-Value-fill_value.v c.in-Value-fill_value.since c.fill_settle-d.result c.fill_settle-d.new.table c.fill_settle-d.ensures) in
+    let z : Came (expect s Colon (place y)) (λ u n. γ ≡ (filling s).moved υ n) = record { what = z₀.what; next = z₀.next; is = z₀.is; so = ap (λ (k : Walk). page k c.fill_tail-y.new.table) z₀.so } in
+    let u = fill_value s c.fill_tail-y.new.table g (read (place g)) c.fill_value-in-Ok-must.result c.fill_value-in-Ok-must.new.table (subst (λ (z : Out Item). FilledI s c.fill_tail-y.new.table g z c.fill_value-in-Ok-must.result c.fill_value-in-Ok-must.new.table) (ap (λ (j : ℕ). reader j s (place g)) c.less-in-Ok-must.ensures ∙ below_less c.args.depth s (place g)) c.fill_value-in-Ok-must.ensures) c.in-Ok-fill_value.is in
+    let t = two_next s (filling s) read far σ q β pre (page c.in-Ok.x.walk c.fill_value.new.table) c.in-Ok.x.from v υ te γ z (page c.in-Ok-fill_value.v.walk c.fill_value-in-Ok-must.new.table) c.in-Ok-fill_value.v.from u (page c.fill_settle-d.result c.fill_settle-d.new.table) (settled_to s c.fill_value-in-Ok-must.new.table c.in-Ok-fill_value.v.walk c.in-Ok-fill_value.v.from c.fill_settle-d.result c.fill_settle-d.new.table c.fill_settle-d.ensures) in
     let k = inv_turn s (filling s) (stops s) (two s read) (page w tb) c.requires σ c.loop-table.invariant e t.is t.so.1 (page c.fill_settle-d.result c.fill_settle-d.new.table) t.so.0 in omega (arith, k.1, k.2)
 
 pub fill_map-loop-table-preserved : goal.fill_map-loop-table-preserved
@@ -734,19 +735,19 @@ fill_map-loop-table-preserved t c = let s = c.args.text.now in
     let b = c.fill_comments-e.result in
     let β = page b c.fill_comments-e.new.table in
     let pre = ran_is s (filling s) σ 7 q.bound β (filled_to s c.loop-table.table d (run s 7 (place d)) c.fill_comments-e.result c.fill_comments-e.new.table c.fill_comments-e.ensures) in
-    let v = fill_value s c.fill_comments-e.new.table b (read (place b)) c.fill_value.result c.fill_value.new.table (subst (λ (z : Out Item). FilledI s c.fill_comments-e.new.table b z c.fill_value.result c.fill_value.new.table) (ap (λ (j : ℕ). reader j s (place b)) c.less.ensures ∙ below_less c.args.depth s (place b)) c.fill_value.ensures) c.in-Value.is in
-    let xr = value_ready s (filling s) read far σ q β pre (page c.in-Value.x c.fill_value.new.table) c.in-Value.from v in
+    let v = fill_value s c.fill_comments-e.new.table b (read (place b)) c.fill_value.result c.fill_value.new.table (subst (λ (z : Out Item). FilledI s c.fill_comments-e.new.table b z c.fill_value.result c.fill_value.new.table) (ap (λ (j : ℕ). reader j s (place b)) c.less.ensures ∙ below_less c.args.depth s (place b)) c.fill_value.ensures) c.in-Ok.is in
+    let xr = value_ready s (filling s) read far σ q β pre (page c.in-Ok.x.walk c.fill_value.new.table) c.in-Ok.x.from v in
     let y = c.fill_tail-y.result in
     let υ = page y c.fill_tail-y.new.table in
-    let tl = tail_r c.in-Value.from (place c.in-Value.x) in
-    let te : υ ≡ (filling s).emit (page c.in-Value.x c.fill_value.new.table) tl (place c.in-Value.x) =
-    both (c.fill_tail-y.ensures.0 ∙ ap (λ (k : Cursor). record { cursor = k; count = c.in-Value.x.count + length tl; same = c.in-Value.x.same }) xr.fresh) c.fill_tail-y.ensures.1 in
-    let z₀ = was_expected s y (expect s 8 (place y)) (sym c.must.ensures ∙ c.in-Done.is) in
-    let g = c.in-Done.z in
+    let tl = tail_r c.in-Ok.x.from (place c.in-Ok.x.walk) in
+    let te : υ ≡ (filling s).emit (page c.in-Ok.x.walk c.fill_value.new.table) tl (place c.in-Ok.x.walk) =
+    both (c.fill_tail-y.ensures.0 ∙ ap (λ (k : Cursor). record { cursor = k; count = c.in-Ok.x.walk.count + length tl; same = c.in-Ok.x.walk.same }) xr.fresh) c.fill_tail-y.ensures.1 in
+    let z₀ = was_expected s y (expect s Colon (place y)) (sym c.must.ensures ∙ c.in-Ok-must.is) in
+    let g = c.in-Ok-must.z in
     let γ = page g c.fill_tail-y.new.table in
-    let z : Came (expect s 8 (place y)) (λ u n. γ ≡ (filling s).moved υ n) = record { what = z₀.what; next = z₀.next; is = z₀.is; so = ap (λ (k : Walk). page k c.fill_tail-y.new.table) z₀.so } in
-    let u = fill_value s c.fill_tail-y.new.table g (read (place g)) c.fill_value-in-Done.result c.fill_value-in-Done.new.table (subst (λ (z : Out Item). FilledI s c.fill_tail-y.new.table g z c.fill_value-in-Done.result c.fill_value-in-Done.new.table) (ap (λ (j : ℕ). reader j s (place g)) c.less-in-Done.ensures ∙ below_less c.args.depth s (place g)) c.fill_value-in-Done.ensures) c.in-Value-fill_value.is in
-    let t = two_next s (filling s) read far σ q β pre (page c.in-Value.x c.fill_value.new.table) c.in-Value.from v υ te γ z (page c.in-Value-fill_value.v c.fill_value-in-Done.new.table) c.in-Value-fill_value.since u (page c.fill_settle-d.result c.fill_settle-d.new.table) (settled_to s c.fill_value-in-Done.new.table c.in-Value-fill_value.v c.in-Value-fill_value.since c.fill_settle-d.result c.fill_settle-d.new.table c.fill_settle-d.ensures) in
+    let z : Came (expect s Colon (place y)) (λ u n. γ ≡ (filling s).moved υ n) = record { what = z₀.what; next = z₀.next; is = z₀.is; so = ap (λ (k : Walk). page k c.fill_tail-y.new.table) z₀.so } in
+    let u = fill_value s c.fill_tail-y.new.table g (read (place g)) c.fill_value-in-Ok-must.result c.fill_value-in-Ok-must.new.table (subst (λ (z : Out Item). FilledI s c.fill_tail-y.new.table g z c.fill_value-in-Ok-must.result c.fill_value-in-Ok-must.new.table) (ap (λ (j : ℕ). reader j s (place g)) c.less-in-Ok-must.ensures ∙ below_less c.args.depth s (place g)) c.fill_value-in-Ok-must.ensures) c.in-Ok-fill_value.is in
+    let t = two_next s (filling s) read far σ q β pre (page c.in-Ok.x.walk c.fill_value.new.table) c.in-Ok.x.from v υ te γ z (page c.in-Ok-fill_value.v.walk c.fill_value-in-Ok-must.new.table) c.in-Ok-fill_value.v.from u (page c.fill_settle-d.result c.fill_settle-d.new.table) (settled_to s c.fill_value-in-Ok-must.new.table c.in-Ok-fill_value.v.walk c.in-Ok-fill_value.v.from c.fill_settle-d.result c.fill_settle-d.new.table c.fill_settle-d.ensures) in
     (inv_turn s (filling s) (stops s) (two s read) (page w tb) c.requires σ c.loop-table.invariant e t.is t.so.1 (page c.fill_settle-d.result c.fill_settle-d.new.table) t.so.0).0
 
 pub fill_map-fill_comments-f-requires : goal.fill_map-fill_comments-f-requires
@@ -777,7 +778,7 @@ fill_map-returns t c = let s = c.args.text.now in
 
 pub fill_value-returns-then-depth-eq0 : goal.fill_value-returns-then-depth-eq0
 unfolding reader
-fill_value-returns-then-depth-eq0 t c = rw c.if-depth-eq0.true (ap Stopped c.too_deep.ensures)
+fill_value-returns-then-depth-eq0 t c = rw c.if-depth-eq0.true (ap Err c.refuse_before.ensures)
 
 pub fill_value-fill_comments-d-requires : goal.fill_value-fill_comments-d-requires
 fill_value-fill_comments-d-requires t c = (c.requires, omega arith, omega arith)
@@ -809,14 +810,14 @@ fill_value-suffix_end-e-requires t c = let s = c.args.text.now in
     let pre = ran_is s (filling s) (page w tb) 7 c.requires.bound β (filled_to s tb w (run s 7 (place w)) c.fill_comments-d.result c.fill_comments-d.new.table c.fill_comments-d.ensures) in
     let q = emit_ready s (filling s) (page w tb) pre.what pre.next β pre.so.0 c.requires pre.so.2 pre.so.3 in
     let bare = bare_at s read (place b) in
-    let x = c.in-Done.x in
-    let r = fill_done s c.fill_comments-d.new.table b bare c.fill_core.result c.fill_core.new.table c.fill_core.ensures c.in-Done.is in
+    let x = c.in-Ok.x in
+    let r = fill_done s c.fill_comments-d.new.table b bare c.fill_core.result c.fill_core.new.table c.fill_core.ensures c.in-Ok.is in
     let g : ((place b).end + length r.what ≤ r.next.end) × ((place b).end < r.next.end) × Spot s r.next = rw r.is at (bare_far s read far (place b) q.bound) in
     let xr = emit_ready s (filling s) β r.what r.next (page x c.fill_core.new.table) r.so q g.0 g.2 in
     ready_at s x.cursor x.count 0 x.cursor (place x) xr xr.fresh xr.bound (omega arith)
 
-pub fill_value-returns-in-Refused : goal.fill_value-returns-in-Refused
-fill_value-returns-in-Refused t c = let s = c.args.text.now in
+pub fill_value-returns-in-Err : goal.fill_value-returns-in-Err
+fill_value-returns-in-Err t c = let s = c.args.text.now in
     let tb = c.args.table.now in
     let w = c.args.w in
     let read = below (c.args.depth - 1) s in
@@ -826,10 +827,10 @@ fill_value-returns-in-Refused t c = let s = c.args.text.now in
     let pre = ran_is s (filling s) (page w tb) 7 c.requires.bound β (filled_to s tb w (run s 7 (place w)) c.fill_comments-d.result c.fill_comments-d.new.table c.fill_comments-d.ensures) in
     let q = emit_ready s (filling s) (page w tb) pre.what pre.next β pre.so.0 c.requires pre.so.2 pre.so.3 in
     let bare = bare_at s read (place b) in
-    fills_stopped s tb w (reader c.args.depth s (place w)) _ c.in-Refused.x (passed (fill_refused s c.fill_comments-d.new.table b bare c.fill_core.result c.fill_core.new.table c.fill_core.ensures c.in-Refused.is) (λ r p h. reader_in c.args.depth s (place w) c.if-depth-eq0.false ∙ value_refused s (filling s) read (page w tb) β pre h))
+    fills_stopped s tb w (reader c.args.depth s (place w)) _ c.in-Err.x (passed (fill_refused s c.fill_comments-d.new.table b bare c.fill_core.result c.fill_core.new.table c.fill_core.ensures c.in-Err.is) (λ r p h. reader_in c.args.depth s (place w) c.if-depth-eq0.false ∙ value_refused s (filling s) read (page w tb) β pre h))
 
-pub fill_value-returns-in-Done : goal.fill_value-returns-in-Done
-fill_value-returns-in-Done t c = let s = c.args.text.now in
+pub fill_value-returns-in-Ok : goal.fill_value-returns-in-Ok
+fill_value-returns-in-Ok t c = let s = c.args.text.now in
     let tb = c.args.table.now in
     let w = c.args.w in
     let read = below (c.args.depth - 1) s in
@@ -839,8 +840,8 @@ fill_value-returns-in-Done t c = let s = c.args.text.now in
     let pre = ran_is s (filling s) (page w tb) 7 c.requires.bound β (filled_to s tb w (run s 7 (place w)) c.fill_comments-d.result c.fill_comments-d.new.table c.fill_comments-d.ensures) in
     let q = emit_ready s (filling s) (page w tb) pre.what pre.next β pre.so.0 c.requires pre.so.2 pre.so.3 in
     let bare = bare_at s read (place b) in
-    let x = c.in-Done.x in
-    let r = fill_done s c.fill_comments-d.new.table b bare c.fill_core.result c.fill_core.new.table c.fill_core.ensures c.in-Done.is in
+    let x = c.in-Ok.x in
+    let r = fill_done s c.fill_comments-d.new.table b bare c.fill_core.result c.fill_core.new.table c.fill_core.ensures c.in-Ok.is in
     let g : ((place b).end + length r.what ≤ r.next.end) × ((place b).end < r.next.end) × Spot s r.next = rw r.is at (bare_far s read far (place b) q.bound) in
     let xr = emit_ready s (filling s) β r.what r.next (page x c.fill_core.new.table) r.so q g.0 g.2 in
     let i = value_is s (filling s) read (page w tb) β pre (page x c.fill_core.new.table) r (page c.at.result c.fill_core.new.table) (ap (λ (y : Walk). page y c.fill_core.new.table) (c.at.ensures ∙ ap (set_cursor x) c.suffix_end-e.ensures)) in

@@ -33,15 +33,15 @@ put_record-requires c = let args = c.args in
     let c' = new.result in
     let cE = new.ensures.place in
     let r = start_ready s pre.0 pre.1 c' cE 1 (omega arith) in
-    let k = (fill_done s tb (record { cursor = c'; count = 1; same = false }) (inside s (two s (below 128 s)) (place_of c')) fill-map.result fill-map.new.table fill-map.ensures c.in-Done.is) in
+    let k = (fill_done s tb (record { cursor = c'; count = 1; same = false }) (inside s (two s (below 128 s)) (place_of c')) fill-map.result fill-map.new.table fill-map.ensures c.in-Ok.is) in
     let f : ((place_of c').end + length k.what ≤ k.next.end) × Spot s k.next = rw k.is at (map_reach s (below 128 s) (below_far 128 s) (place_of c') r.bound) in
     omega (arith, pre.1, f.0, f.1.within, ap (λ (σ : Page). σ.cur.count) k.so)
 
-pub returns-in-Done : goal.returns-in-Done
-returns-in-Done c = let args = c.args in
+pub returns-in-Ok : goal.returns-in-Ok
+returns-in-Ok c = let args = c.args in
     let new = c.new-c in
     let fill-map = c.fill_map in
-    let x = c.in-Done in
+    let x = c.in-Ok in
     let put_record = c.put_record in
     let s = args.text.now in
     let tb = args.table.now in
@@ -50,13 +50,13 @@ returns-in-Done c = let args = c.args in
     let came = (fill_done s tb (record { cursor = c'; count = 1; same = false }) (inside s (two s (below 128 s)) (place_of c')) fill-map.result fill-map.new.table fill-map.ensures x.is) in
     record { table = fill_whole s tb c' cE (two s (below 128 s)) 5 x.x fill-map.new.table put_record.new.table came put_record.ensures; walk = went s tb (inside s (two s (below 128 s))) 1 c' cE _ _ came }
 
-pub returns-in-Refused : goal.returns-in-Refused
-returns-in-Refused c = let args = c.args in
+pub returns-in-Err : goal.returns-in-Err
+returns-in-Err c = let args = c.args in
     let new = c.new-c in
     let fill-map = c.fill_map in
     let s = args.text.now in
     let tb = args.table.now in
     let c' = new.result in
     let cE = new.ensures.place in
-    let failed = (fill_refused s tb (record { cursor = c'; count = 1; same = false }) (inside s (two s (below 128 s)) (place_of c')) fill-map.result fill-map.new.table fill-map.ensures c.in-Refused.is) in
-    record { table = fill_nothing s tb c' cE (two s (below 128 s)) 5 c.in-Refused.a fill-map.new.table failed; walk = went_nowhere s tb (inside s (two s (below 128 s))) 1 c' cE _ failed }
+    let failed = (fill_refused s tb (record { cursor = c'; count = 1; same = false }) (inside s (two s (below 128 s)) (place_of c')) fill-map.result fill-map.new.table fill-map.ensures c.in-Err.is) in
+    record { table = fill_nothing s tb c' cE (two s (below 128 s)) 5 c.in-Err.a fill-map.new.table failed; walk = went_nowhere s tb (inside s (two s (below 128 s))) 1 c' cE _ failed }

@@ -48,7 +48,7 @@ fill_settle-requires c = let args = c.args in
     let new = c.new-c in
     let fill-comments = c.fill_comments-e in
     let its-fill-value = c.fill_value in
-    let x = c.in-Value in
+    let x = c.in-Ok in
     let s = args.text.now in
     let tb = args.table.now in
     let c' = new.result in
@@ -61,15 +61,15 @@ fill_settle-requires c = let args = c.args in
     let β = page b fill-comments.new.table in
     let pre = ran_is s (filling s) (page w tb) 7 ready.bound β (filled_to s tb w (run s 7 (place w)) b fill-comments.new.table fill-comments.ensures) in
     let v = fill_value s fill-comments.new.table b (read (place b)) its-fill-value.result its-fill-value.new.table (subst (λ (z : Out Item). FilledI s fill-comments.new.table b z its-fill-value.result its-fill-value.new.table) (below_less 128 s (place b)) its-fill-value.ensures) x.is in
-    value_ready s (filling s) read far (page w tb) ready β pre (page x.x its-fill-value.new.table) x.from v
+    value_ready s (filling s) read far (page w tb) ready β pre (page x.x.walk its-fill-value.new.table) x.x.from v
 
-pub returns-in-Value : goal.returns-in-Value
-returns-in-Value c = let args = c.args in
+pub returns-in-Ok : goal.returns-in-Ok
+returns-in-Ok c = let args = c.args in
     let its-pre = c.requires in
     let new = c.new-c in
     let fill-comments = c.fill_comments-e in
     let its-fill-value = c.fill_value in
-    let x = c.in-Value in
+    let x = c.in-Ok in
     let fill-settle = c.fill_settle in
     let s = args.text.now in
     let tb = args.table.now in
@@ -84,12 +84,12 @@ returns-in-Value c = let args = c.args in
     let pre = ran_is s (filling s) (page w tb) 7 ready.bound β (filled_to s tb w (run s 7 (place w)) b fill-comments.new.table fill-comments.ensures) in
     let v = fill_value s fill-comments.new.table b (read (place b)) its-fill-value.result its-fill-value.new.table (subst (λ (z : Out Item). FilledI s fill-comments.new.table b z its-fill-value.result its-fill-value.new.table) (below_less 128 s (place b)) its-fill-value.ensures) x.is in
     let y = fill-settle.result in
-    let t = one_next s (filling s) read far (page w tb) ready β pre (page x.x its-fill-value.new.table) x.from v (page y fill-settle.new.table) (settled_to s its-fill-value.new.table x.x x.from y fill-settle.new.table fill-settle.ensures) in
+    let t = one_next s (filling s) read far (page w tb) ready β pre (page x.x.walk its-fill-value.new.table) x.x.from v (page y fill-settle.new.table) (settled_to s its-fill-value.new.table x.x.walk x.x.from y fill-settle.new.table fill-settle.ensures) in
     let came : Came (one s read (place w)) (λ f l. page y fill-settle.new.table ≡ emit_p s (page w tb) f l) = record { what = t.what; next = t.next; is = t.is; so = t.so.0 } in
     record { table = fill_one s tb c' cE (one s read) y fill-settle.new.table came; walk = went s tb (one s read) 0 c' cE y fill-settle.new.table came }
 
-pub returns-in-Stopped : goal.returns-in-Stopped
-returns-in-Stopped c = let args = c.args in
+pub returns-in-Err : goal.returns-in-Err
+returns-in-Err c = let args = c.args in
     let its-pre = c.requires in
     let new = c.new-c in
     let fill-comments = c.fill_comments-e in
@@ -105,5 +105,5 @@ returns-in-Stopped c = let args = c.args in
     let b = fill-comments.result in
     let β = page b fill-comments.new.table in
     let pre = ran_is s (filling s) (page w tb) 7 ready.bound β (filled_to s tb w (run s 7 (place w)) b fill-comments.new.table fill-comments.ensures) in
-    let failed = passed (fill_stopped s fill-comments.new.table b _ its-fill-value.result its-fill-value.new.table its-fill-value.ensures c.in-Stopped.is) (λ r p h. one_stop s (filling s) read far (page w tb) ready β pre (sym (below_less 128 s (place b)) ∙ h)) in
-    record { table = fill_none s tb c' cE (one s read) c.in-Stopped.b its-fill-value.new.table failed; walk = went_nowhere s tb (one s read) 0 c' cE c.in-Stopped.b failed }
+    let failed = passed (fill_stopped s fill-comments.new.table b _ its-fill-value.result its-fill-value.new.table its-fill-value.ensures c.in-Err.is) (λ r p h. one_stop s (filling s) read far (page w tb) ready β pre (sym (below_less 128 s (place b)) ∙ h)) in
+    record { table = fill_none s tb c' cE (one s read) c.in-Err.b its-fill-value.new.table failed; walk = went_nowhere s tb (one s read) 0 c' cE c.in-Err.b failed }

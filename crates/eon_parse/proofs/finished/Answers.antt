@@ -1,3 +1,5 @@
+use Rattle.std.specs.Prelude.{ℕ, Err}
+use Rattle.eon_spec.specs.declared.refusal.Refusal.{Refusal}
 use mathlib.Core.Path.{ap, ◌∙◌}
 use Rattle.eon_spec.specs.Calls.{outcome_of}
 use Rattle.eon_laws.proofs.Checked.{good_text}
@@ -8,7 +10,7 @@ pub returns-then-text-gt65535 : goal.returns-then-text-gt65535
 returns-then-text-gt65535 c = let args = c.args in
     let s = args.text.now in
     let tb = args.table.now in
-    ap outcome_of c.at_place.ensures ∙ fin_long s tb c.if-text-gt65535.true
+    ap (λ (r : Refusal). outcome_of {A = ℕ} (Err r)) c.new.ensures ∙ fin_long s tb c.if-text-gt65535.true
 
 pub finished_checked-requires : goal.finished_checked-requires
 finished_checked-requires c = let args = c.args in
@@ -24,4 +26,4 @@ returns c = let args = c.args in
     let well-formed-len = c.well_formed_len-n in
     let s = args.text.now in
     let tb = args.table.now in
-    ap outcome_of c.at_place-2.ensures ∙ fin_bad s tb c.if-text-gt65535.false well-formed-len.result well-formed-len.ensures c.if-n-text.false
+    ap (λ (r : Refusal). outcome_of {A = ℕ} (Err r)) c.new-2.ensures ∙ fin_bad s tb c.if-text-gt65535.false well-formed-len.result well-formed-len.ensures c.if-n-text.false

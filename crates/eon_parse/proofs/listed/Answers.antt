@@ -37,15 +37,15 @@ settle-y-requires c = let args = c.args in
     let b = comments.result in
     let pre = ran_is s (counting s tb) w 7 ready.bound b (ran_to s tb w (run s 7 (place w)) b comments.ensures) in
     let o = below_less 128 s (place b) in
-    let v = was_value s tb b (read (place b)) (ap (counted s tb b) (sym o) ∙ sym c.value.ensures ∙ c.in-Value.is) in
-    value_ready s (counting s tb) read far w ready b pre c.in-Value.x c.in-Value.from v
+    let v = was_value s tb b (read (place b)) (ap (counted s tb b) (sym o) ∙ sym c.value.ensures ∙ c.in-Ok.is) in
+    value_ready s (counting s tb) read far w ready b pre c.in-Ok.x.walk c.in-Ok.x.from v
 
 pub ends-requires : goal.ends-requires
 ends-requires c = let args = c.args in
     let its-pre = c.requires in
     let comments = c.comments-e in
     let value = c.value in
-    let x = c.in-Value in
+    let x = c.in-Ok in
     let s = args.text.now in
     let tb = args.table.now in
     let w = args.w in
@@ -57,7 +57,7 @@ ends-requires c = let args = c.args in
     let o = below_less 128 s (place b) in
     let v = was_value s tb b (read (place b)) (ap (counted s tb b) (sym o) ∙ sym value.ensures ∙ x.is) in
     let y = c.settle-y.result in
-    let t = one_next s (counting s tb) read far w ready b pre x.x x.from v y c.settle-y.ensures in
+    let t = one_next s (counting s tb) read far w ready b pre x.x.walk x.x.from v y c.settle-y.ensures in
     let yr = emit_ready s (counting s tb) w t.what t.next y t.so.0 ready t.so.1.0 t.so.1.2 in
     let came : Came (one s read (place w)) (λ f n. y ≡ emit s tb w f n) = record { what = t.what; next = t.next; is = t.is; so = t.so.0 } in
     yr
@@ -67,7 +67,7 @@ end_single-requires c = let args = c.args in
     let its-pre = c.requires in
     let comments = c.comments-e in
     let value = c.value in
-    let x = c.in-Value in
+    let x = c.in-Ok in
     let settle = c.settle-y in
     let s = args.text.now in
     let tb = args.table.now in
@@ -80,7 +80,7 @@ end_single-requires c = let args = c.args in
     let o = below_less 128 s (place b) in
     let v = was_value s tb b (read (place b)) (ap (counted s tb b) (sym o) ∙ sym value.ensures ∙ x.is) in
     let y = settle.result in
-    let t = one_next s (counting s tb) read far w ready b pre x.x x.from v y settle.ensures in
+    let t = one_next s (counting s tb) read far w ready b pre x.x.walk x.x.from v y settle.ensures in
     let yr = emit_ready s (counting s tb) w t.what t.next y t.so.0 ready t.so.1.0 t.so.1.2 in
     let came : Came (one s read (place w)) (λ f n. y ≡ emit s tb w f n) = record { what = t.what; next = t.next; is = t.is; so = t.so.0 } in
     yr
@@ -90,7 +90,7 @@ returns-then-ends c = let args = c.args in
     let its-pre = c.requires in
     let comments = c.comments-e in
     let value = c.value in
-    let x = c.in-Value in
+    let x = c.in-Ok in
     let settle = c.settle-y in
     let s = args.text.now in
     let tb = args.table.now in
@@ -103,7 +103,7 @@ returns-then-ends c = let args = c.args in
     let o = below_less 128 s (place b) in
     let v = was_value s tb b (read (place b)) (ap (counted s tb b) (sym o) ∙ sym value.ensures ∙ x.is) in
     let y = settle.result in
-    let t = one_next s (counting s tb) read far w ready b pre x.x x.from v y settle.ensures in
+    let t = one_next s (counting s tb) read far w ready b pre x.x.walk x.x.from v y settle.ensures in
     let yr = emit_ready s (counting s tb) w t.what t.next y t.so.0 ready t.so.1.0 t.so.1.2 in
     let came : Came (one s read (place w)) (λ f n. y ≡ emit s tb w f n) = record { what = t.what; next = t.next; is = t.is; so = t.so.0 } in
     list_single s tb w args.a (one s read (place w)) y came (sym c.ends.ensures ∙ c.if-ends.true) c.end_single.result c.end_single.ensures
@@ -126,12 +126,12 @@ several-requires c = let args = c.args in
     let pre = ran_is s (counting s tb) w 7 ready.bound b (ran_to s tb w (run s 7 (place w)) b comments.ensures) in
     record { short = ready.short; bound = ready.bound; few = omega (arith, its-pre.1); fresh = ready.fresh }
 
-pub returns-in-Stopped : goal.returns-in-Stopped
-returns-in-Stopped c = let args = c.args in
+pub returns-in-Err : goal.returns-in-Err
+returns-in-Err c = let args = c.args in
     let its-pre = c.requires in
     let comments = c.comments-e in
     let value = c.value in
-    let its-b = c.in-Stopped in
+    let its-b = c.in-Err in
     let s = args.text.now in
     let tb = args.table.now in
     let w = args.w in
@@ -147,7 +147,7 @@ returns-else-ends c = let args = c.args in
     let its-pre = c.requires in
     let comments = c.comments-e in
     let value = c.value in
-    let x = c.in-Value in
+    let x = c.in-Ok in
     let settle = c.settle-y in
     let ends = c.ends in
     let s = args.text.now in
@@ -161,7 +161,7 @@ returns-else-ends c = let args = c.args in
     let o = below_less 128 s (place b) in
     let v = was_value s tb b (read (place b)) (ap (counted s tb b) (sym o) ∙ sym value.ensures ∙ x.is) in
     let y = settle.result in
-    let t = one_next s (counting s tb) read far w ready b pre x.x x.from v y settle.ensures in
+    let t = one_next s (counting s tb) read far w ready b pre x.x.walk x.x.from v y settle.ensures in
     let yr = emit_ready s (counting s tb) w t.what t.next y t.so.0 ready t.so.1.0 t.so.1.2 in
     let came : Came (one s read (place w)) (λ f n. y ≡ emit s tb w f n) = record { what = t.what; next = t.next; is = t.is; so = t.so.0 } in
     list_several s tb w args.a (one s read (place w)) y came (sym ends.ensures ∙ c.if-ends.false) ready.fresh c.several.result c.several.ensures

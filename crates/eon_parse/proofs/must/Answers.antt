@@ -1,10 +1,13 @@
-use mathlib.Core.Path.{ap, ◌∙◌}
+use mathlib.Core.Path.{sym, ap, ◌∙◌}
 use native.Mathlib.Omega.{arith}
-use Rattle.eon_spec.specs.Refused.{Refusal}
 use Rattle.eon_token.specs.declared.token_kind.PlacedToken.{PlacedToken}
+use Rattle.eon_spec.specs.declared.token_kind.TokenKind.{TokenKind}
+use Rattle.eon_spec.specs.declared.refusal.Reason.TheVariants.{Mismatch}
+use Rattle.eon_parse.specs.Walk.{refused_at}
+use Rattle.eon_token.specs.Place.{span}
 use Rattle.eon_token.proofs.Places.{kind_lt}
 use Rattle.eon_parse.specs.Answer.{stop_of, place}
-use Rattle.eon_parse.specs.declared.Bare.TheVariants.{Refused}
+use Rattle.std.specs.Prelude.{Err}
 use Rattle.eon_parse.proofs.Steps.{must_end, must_stray, must_done, must_wrong}
 use Rattle.eon_parse.proofs.Pass.{peeks, peeks_kind}
 use Rattle.eon_parse.proofs.must.Goals as goal
@@ -13,14 +16,14 @@ pub returns-then-t-eq-END : goal.returns-then-t-eq-END
 returns-then-t-eq-END c = let pre = c.requires in
     let peek = c.peek-t in
     let a = c.args in
-    ap (λ (r : Refusal). Refused (stop_of r a.w.cursor.end)) c.wrong-r.ensures
+    ap Err c.refuse_before.ensures
     ∙ must_end a.text.now a.w a.w.count pre a.k peek.result peek.ensures c.if-t-eq-END.true
 
 pub returns-then-t-eq-STRAY : goal.returns-then-t-eq-STRAY
 returns-then-t-eq-STRAY c = let pre = c.requires in
     let peek = c.peek-t in
     let a = c.args in
-    ap Refused c.refuse_at.ensures
+    ap Err c.refuse_at.ensures
     ∙ must_stray a.text.now a.w a.w.count pre a.k peek.result peek.ensures c.if-t-eq-END.false c.if-t-eq-STRAY.true
 
 pub skip-requires : goal.skip-requires
@@ -33,17 +36,17 @@ skip-requires c = let pre = c.requires in
     let k = kind_lt s (place a.w) (λ z. if1.false (ap (λ (u : PlacedToken). u.kind) e ∙ z)) in
     (pre, omega (arith, k, peeks_kind s a.w.cursor a.w.count pre))
 
-pub returns-then-t-k : goal.returns-then-t-k
-returns-then-t-k c = let pre = c.requires in
+pub returns-then-t-from : goal.returns-then-t-from
+returns-then-t-from c = let pre = c.requires in
     let peek = c.peek-t in
     let if1 = c.if-t-eq-END in
     let a = c.args in
-    must_done a.text.now a.w a.w.count pre a.k peek.result peek.ensures if1.false c.if-t-eq-STRAY.false c.if-t-k.true c.skip.result c.skip.ensures
+    must_done a.text.now a.w a.w.count pre a.k peek.result peek.ensures if1.false c.if-t-eq-STRAY.false (c.if-t-from.true ∙ c.from.ensures) c.skip.result c.skip.ensures
 
 pub returns : goal.returns
 returns c = let pre = c.requires in
     let peek = c.peek-t in
     let if1 = c.if-t-eq-END in
     let a = c.args in
-    ap (λ (r : Refusal). Refused (stop_of r peek.result.end)) c.wrong-r-2.ensures
-    ∙ must_wrong a.text.now a.w a.w.count pre a.k peek.result peek.ensures if1.false c.if-t-eq-STRAY.false c.if-t-k.false
+    ap Err c.refuse_at-2.ensures ∙ ap (λ (k : TokenKind). Err (stop_of (refused_at (Mismatch a.k k) (span peek.result.start peek.result.end)) peek.result.end)) c.kind_of-found.ensures
+    ∙ must_wrong a.text.now a.w a.w.count pre a.k peek.result peek.ensures if1.false c.if-t-eq-STRAY.false (λ e. c.if-t-from.false (e ∙ sym c.from.ensures))

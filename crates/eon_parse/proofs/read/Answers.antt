@@ -1,6 +1,7 @@
+use Rattle.std.specs.Prelude.{ℕ, Err}
+use Rattle.eon_spec.specs.declared.refusal.Refusal.{Refusal}
 use mathlib.Core.Path.{ap, ◌∙◌}
 use Rattle.eon_spec.specs.Calls.{after, outcome_of}
-use Rattle.eon_spec.specs.declared.Answer.{Answer}
 use Rattle.eon_laws.proofs.Checked.{good_text}
 use Rattle.eon_parse.proofs.Calls.{read_long, read_bad}
 use Rattle.eon_parse.proofs.read.Goals as goal
@@ -9,7 +10,7 @@ pub returns-then-text-gt65535 : goal.returns-then-text-gt65535
 returns-then-text-gt65535 c = let args = c.args in
     let s = args.text.now in
     let tb = args.table.now in
-    ap (λ (a : Answer). after (outcome_of a) tb) c.at_place.ensures ∙ read_long s tb c.if-text-gt65535.true
+    ap (λ (r : Refusal). after (outcome_of {A = ℕ} (Err r)) tb) c.new.ensures ∙ read_long s tb c.if-text-gt65535.true
 
 pub read_checked-requires : goal.read_checked-requires
 read_checked-requires c = let args = c.args in
@@ -26,5 +27,5 @@ returns c = let args = c.args in
     let well-formed-len = c.well_formed_len-n in
     let s = args.text.now in
     let tb = args.table.now in
-    ap (λ (a : Answer). after (outcome_of a) tb) c.at_place-2.ensures
+    ap (λ (r : Refusal). after (outcome_of {A = ℕ} (Err r)) tb) c.new-2.ensures
     ∙ read_bad s tb c.if-text-gt65535.false well-formed-len.result well-formed-len.ensures c.if-n-text.false

@@ -1,8 +1,9 @@
+use Rattle.std.specs.Prelude.{ℕ, Err}
+use Rattle.eon_spec.specs.declared.refusal.Refusal.{Refusal}
 use mathlib.Core.Path.{sym, ap, ◌∙◌}
 use mathlib.Core.Bool.{false}
 use native.Mathlib.Omega.{arith}
 use Rattle.eon_spec.specs.Calls.{after, outcome_of}
-use Rattle.eon_spec.specs.declared.Answer.{Answer}
 use Rattle.eon_parse.proofs.Calls.{few_map, few_single, few_several, reads_denied, reads_map, reads_map_full, reads_single, reads_single_full, reads_several, reads_several_full}
 use Rattle.eon_parse.proofs.read_checked.Goals as goal
 
@@ -89,7 +90,7 @@ returns-else-n-table c = let args = c.args in
     let n = c.in-Map in
     let s = args.text.now in
     let tb = args.table.now in
-    ap (λ (a : Answer). after (outcome_of a) tb) c.at_place.ensures ∙ reads_map_full s tb pre.0 pre.1 n.n n.same (sym scan.ensures ∙ n.is) c.if-n-table.false
+    ap (λ (r : Refusal). after (outcome_of {A = ℕ} (Err r)) tb) c.new.ensures ∙ reads_map_full s tb pre.0 pre.1 n.n n.same (sym scan.ensures ∙ n.is) c.if-n-table.false
 
 pub returns-else-n-table-2 : goal.returns-else-n-table-2
 returns-else-n-table-2 c = let args = c.args in
@@ -98,7 +99,7 @@ returns-else-n-table-2 c = let args = c.args in
     let n2 = c.in-Single in
     let s = args.text.now in
     let tb = args.table.now in
-    ap (λ (a : Answer). after (outcome_of a) tb) c.at_place-in-Single.ensures ∙ reads_single_full s tb pre.0 pre.1 n2.n n2.same (sym scan.ensures ∙ n2.is) c.if-n-table-2.false
+    ap (λ (r : Refusal). after (outcome_of {A = ℕ} (Err r)) tb) c.new-in-Single.ensures ∙ reads_single_full s tb pre.0 pre.1 n2.n n2.same (sym scan.ensures ∙ n2.is) c.if-n-table-2.false
 
 pub returns-else-count-table : goal.returns-else-count-table
 returns-else-count-table c = let args = c.args in
@@ -107,4 +108,4 @@ returns-else-count-table c = let args = c.args in
     let count = c.in-Several in
     let s = args.text.now in
     let tb = args.table.now in
-    ap (λ (a : Answer). after (outcome_of a) tb) c.at_place-in-Several.ensures ∙ reads_several_full s tb pre.0 pre.1 count.count count.same (sym scan.ensures ∙ count.is) c.if-count-table.false
+    ap (λ (r : Refusal). after (outcome_of {A = ℕ} (Err r)) tb) c.new-in-Several.ensures ∙ reads_several_full s tb pre.0 pre.1 count.count count.same (sym scan.ensures ∙ count.is) c.if-count-table.false

@@ -1,3 +1,7 @@
+use mathlib.Core.Path.{ap}
+use Rattle.std.specs.Prelude.{ℕ, Err}
+use Rattle.eon_spec.specs.declared.refusal.Refusal.{Refusal}
+use Rattle.eon_spec.specs.Calls.{outcome_of}
 use Rattle.eon_spec.specs.Parse.{refusal}
 use Rattle.eon_token.specs.Place.{span}
 use Rattle.eon_laws.proofs.Checked.{good_text}
@@ -9,7 +13,7 @@ pub returns-then-text-gt65535 : goal.returns-then-text-gt65535
 returns-then-text-gt65535 c = let args = c.args in
     let s = args.text.now in
     let tb = args.table.now in
-    let e = once_refused s tb c.at_place.result (refusal 1 (span 65535 65535)) (long_text s tb c.if-text-gt65535.true) c.at_place.ensures in
+    let e = once_refused s tb (Err c.new.result) (refusal 1 (span 65535 65535)) (long_text s tb c.if-text-gt65535.true) (ap (λ (r : Refusal). outcome_of {A = ℕ} (Err r)) c.new.ensures) in
     record { count = e.0; table = e.1 }
 
 pub once-requires : goal.once-requires
@@ -38,5 +42,5 @@ returns c = let args = c.args in
     let s = args.text.now in
     let tb = args.table.now in
     let n = well-formed-len.result in
-    let e = once_refused s tb c.at_place-2.result (refusal 2 (span n n)) (bad_text s tb c.if-text-gt65535.false n well-formed-len.ensures c.if-n-text.false) c.at_place-2.ensures in
+    let e = once_refused s tb (Err c.new-2.result) (refusal 2 (span n n)) (bad_text s tb c.if-text-gt65535.false n well-formed-len.ensures c.if-n-text.false) (ap (λ (r : Refusal). outcome_of {A = ℕ} (Err r)) c.new-2.ensures) in
     record { count = e.0; table = e.1 }

@@ -25,22 +25,22 @@ listed-requires c = let args = c.args in
     let cE = new.ensures.place in
     (start_ready s pre.0 pre.1 c' cE 0 (omega arith), omega arith)
 
-pub returns-in-Done : goal.returns-in-Done
-returns-in-Done c = let args = c.args in
+pub returns-in-Ok : goal.returns-in-Ok
+returns-in-Ok c = let args = c.args in
     let new = c.new-c in
     let map = c.map in
-    let x = c.in-Done in
+    let x = c.in-Ok in
     let s = args.text.now in
     let tb = args.table.now in
     let c' = new.result in
     let cE = new.ensures.place in
     scan_map s tb args.compare c' cE x.x (was_done s tb (record { cursor = c'; count = 1; same = args.compare }) (inside s (two s (below 128 s)) (place_of c')) (sym map.ensures ∙ x.is)) c.end_map.result c.end_map.ensures
 
-pub returns-in-Refused : goal.returns-in-Refused
-returns-in-Refused c = let args = c.args in
+pub returns-in-Err : goal.returns-in-Err
+returns-in-Err c = let args = c.args in
     let new = c.new-c in
     let map = c.map in
-    let a = c.in-Refused in
+    let a = c.in-Err in
     let s = args.text.now in
     let tb = args.table.now in
     let c' = new.result in
