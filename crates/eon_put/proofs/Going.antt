@@ -15,13 +15,18 @@ module _ {A : Type 0} (puts : A → List ℕ → A → Type 0) where
   pub going_end : {s t : A} {total rest : List ℕ} → Going s total t rest → rest ≡ [] → puts s total t
   going_end g e = put_as (sym (append-nil g.done) ∙ ap (λ (l : List ℕ). g.done ++ l) (sym e) ∙ g.whole) g.put
 
-  module _ (nothing : (s : A) → puts s [] s) (append : (s t u : A) (b c : List ℕ) → puts s b t → puts t c u → puts s (b ++ c) u) where
-    pub going_start : {s : A} {total : List ℕ} → Going s total s total
-    going_start {s} = record { done = []; put = nothing s; whole = refl }
+  abbrev pub Appends : Type 0
+  Appends = (s t u : A) (b c : List ℕ) → puts s b t → puts t c u → puts s (b ++ c) u
 
-    pub going_step : {s t u : A} {total x left rest : List ℕ} → Going s total t left → left ≡ x ++ rest → puts t x u → Going s total u rest
-    going_step {s} {t} {u} {x = x} {rest = rest} g e p = record {
-      done = g.done ++ x;
-      put = append s t u g.done x g.put p;
-      whole = append_assoc g.done x rest ∙ ap (λ (l : List ℕ). g.done ++ l) (sym e) ∙ g.whole;
-    }
+  pub going_from : {s t : A} {b rest : List ℕ} → puts s b t → Going s (b ++ rest) t rest
+  going_from {b = b} p = record { done = b; put = p; whole = refl }
+
+  pub going_start : ((s : A) → puts s [] s) → {s : A} {total : List ℕ} → Going s total s total
+  going_start nothing {s} = record { done = []; put = nothing s; whole = refl }
+
+  pub going_step : Appends → {s t u : A} {total x left rest : List ℕ} → Going s total t left → left ≡ x ++ rest → puts t x u → Going s total u rest
+  going_step append {s} {t} {u} {x = x} {rest = rest} g e p = record {
+    done = g.done ++ x;
+    put = append s t u g.done x g.put p;
+    whole = append_assoc g.done x rest ∙ ap (λ (l : List ℕ). g.done ++ l) (sym e) ∙ g.whole;
+  }

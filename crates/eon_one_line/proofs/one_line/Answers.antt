@@ -15,7 +15,7 @@ loop-j-preserved g c = let s = c.args.sheet.text.now in
     let p = g.S.Sink.puts in
     let m = g.met.S.Sink in
     let step : (t : g.row.S.Denot) → p c.put_plain.new.sink (comma_at (j + 1) e) t → Going p c.args.sink.now (plain_line s tb c.args.i (e - c.args.i)) t (plain_line s tb (j + 1) (e - (j + 1))) =
-    λ t q. going_step p m.nothing m.append c.loop-j.invariant (line_more s tb j e c.loop-j-test.true) (m.append c.loop-j.sink c.put_plain.new.sink t (plain_at s tb j) (comma_at (j + 1) e) c.put_plain.ensures q) in
+    λ t q. going_step p m.append c.loop-j.invariant (line_more s tb j e c.loop-j-test.true) (m.append c.loop-j.sink c.put_plain.new.sink t (plain_at s tb j) (comma_at (j + 1) e) c.put_plain.ensures q) in
     elim c.if-j-end.branch [
       | then-j-end w ↦
           let comma : codes ", " ≡ comma_at (j + 1) e = ap (λ (b : Bool). cond b (codes ", ") []) (sym (lt-ltb (j + 1) e w.if-j-end.true)) in
