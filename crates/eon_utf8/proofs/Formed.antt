@@ -21,7 +21,7 @@ unfolding well_formed_from
 stops [] e = refl
 stops (b ∷ t) e = rw (e, well_formed_from)
 
-goes_on : (n : ℕ) (t : List ℕ) → n ≡ char_len t → 0 < n → well_formed_from 0 t ≡ n + well_formed_from 0 (drop n t)
+pub goes_on : (n : ℕ) (t : List ℕ) → n ≡ char_len t → 0 < n → well_formed_from 0 t ≡ n + well_formed_from 0 (drop n t)
 unfolding well_formed_from char_len
 goes_on zero t e h = absurd (omega arith)
 goes_on (suc k) [] e h = absurd (omega arith)
@@ -42,7 +42,7 @@ pass s at n m z p h e = rw z (record {
 })
 
 -- what is left, as a slice of the text
-rest : (s : List ℕ) (at : ℕ) → take (length s - at) (drop at s) ≡ drop at s
+pub rest : (s : List ℕ) (at : ℕ) → take (length s - at) (drop at s) ≡ drop at s
 rest s at = take_all (length s - at) (drop at s) (omega (arith, length-drop at s))
 
 pub pass_char : (s : List ℕ) (at : ℕ) (c : Char) → Passed s at → StartsWith (take (length s - at) (drop at s)) c → Passed s (at + c.len)
@@ -55,7 +55,7 @@ pass_end s at p h = let z = stops (drop at s) (rw (rest s at) at h) in omega (ar
 abbrev pub ascii_len : List ℕ → ℕ
 ascii_len s = length (take_while (λ b. nat_lt b 0x80) s)
 
-ascii_char : (b : ℕ) (s : List ℕ) → nat_lt b 0x80 ≡ true → 1 ≡ char_len (b ∷ s)
+pub ascii_char : (b : ℕ) (s : List ℕ) → nat_lt b 0x80 ≡ true → 1 ≡ char_len (b ∷ s)
 unfolding char_len
 ascii_char b s e = grind (arith, nat_tests)
 
