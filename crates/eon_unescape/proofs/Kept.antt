@@ -1,10 +1,12 @@
 -- The characters of a text without carriage returns, one by one.
 use Rattle.std.proofs.Common.{◌≡◌, refl, sym, ap, ◌∙◌, ℕ, zero, suc, ◌+◌, ◌-◌, ◌≤◌, ◌<◌, List, [], ◌∷◌, map, length, drop, take, length-drop, arith}
 use borrow.Author.Tests.{eq-eqb, ne_eqb}
-use lib.Seq.{drop-drop}
+use lib.ListN.{take-append-drop}
+use Rattle.eon_spec.specs.Base.{elem}
+use Rattle.eon_laws.proofs.Facts.{nor_right, elem_append}
 use Rattle.eon_spec.specs.Utf8.{char_len, chars_from, chars, decode, code_point, Character, well_formed_len}
 use Rattle.eon_spec.specs.Unquote.{without}
-use Rattle.eon_unescape.specs.Views.{kept, Formed}
+use Rattle.eon_unescape.specs.Views.{kept, Formed, BytesOf}
 use Rattle.eon_utf8.specs.Post.{StartsWith}
 use Rattle.eon_utf8.specs.declared.Char.{Char}
 use Rattle.eon_utf8.proofs.Formed.{goes_on, rest}
@@ -55,3 +57,6 @@ module _ (s : List ℕ) (c : Char) (h : StartsWith s c) where
 
   pub shorter : length (take (length s - c.len) (drop c.len s)) < length s
   shorter = rw (rest s c.len) (omega (arith, length-drop c.len s, h.inside, h.some))
+
+  pub rest_bytes : BytesOf s (take (length s - c.len) (drop c.len s))
+  rest_bytes x e = rw (rest s c.len) (nor_right (elem x (take c.len s)) (elem x (drop c.len s)) (sym (elem_append x (take c.len s) (drop c.len s)) ∙ rw (take-append-drop c.len s) e))

@@ -1,6 +1,7 @@
 -- What the functions' answers say.
-use Rattle.std.specs.Prelude.{ℕ, ◌+◌, ◌≤◌, ◌<◌, ◌≡◌, ◌==◌, Bool, ◌||◌, not, List, [], ◌∷◌, length, drop, take, Option, Some, None, Result, Ok, Err}
+use Rattle.std.specs.Prelude.{ℕ, ◌+◌, ◌≤◌, ◌<◌, ◌≡◌, ◌==◌, Bool, false, ◌||◌, not, List, [], ◌∷◌, length, drop, take, Option, Some, None, Result, Ok, Err}
 use Rattle.std.proofs.lemmas.List.Edits.{sets}
+use Rattle.eon_spec.specs.Base.{elem}
 use Rattle.eon_spec.specs.Utf8.{decode, encode, well_formed_len}
 use Rattle.eon_spec.specs.Refused.{number_of}
 use Rattle.eon_spec.specs.Unquote.{value, fault, without}
@@ -18,11 +19,16 @@ kept s = without 13 (decode s)
 abbrev pub Formed : List ℕ → Type 0
 Formed s = well_formed_len s ≡ length s
 
+-- no bytes but those of s
+abbrev pub BytesOf : List ℕ → List ℕ → Type 0
+BytesOf s t = (x : ℕ) → elem x s ≡ false → elem x t ≡ false
+
 -- the first of those characters, and the text behind it
 pub record Begins (s : List ℕ) (n : Next) : Type 0 where
   pub is : kept s ≡ n.code ∷ kept n.rest.now
   pub shorter : length n.rest.now < length s
   pub formed : Formed s → Formed n.rest.now
+  pub bytes : BytesOf s n.rest.now
 
 abbrev pub NextIs : List ℕ → Option Next → Type 0
 NextIs s None = kept s ≡ []

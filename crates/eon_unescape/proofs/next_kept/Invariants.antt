@@ -1,5 +1,5 @@
 use Rattle.std.proofs.Common.{◌≡◌, ◌≤◌, length}
-use Rattle.eon_unescape.specs.Views.{kept, Formed}
+use Rattle.eon_unescape.specs.Views.{kept, Formed, BytesOf}
 use Rattle.eon_unescape.proofs.next_kept.Given as goal
 
 -- only carriage returns are passed
@@ -8,6 +8,7 @@ invariant-loop-c l = record {
   same : kept l.text ≡ kept l.rest;
   shorter : length l.rest ≤ length l.text;
   formed : Formed l.text → Formed l.rest;
+  bytes : BytesOf l.text l.rest;
 }
 
 abbrev pub decreases-loop-c : goal.decreases-loop-c

@@ -1,0 +1,7 @@
+use Rattle.std.proofs.Common.{◌≡◌, ◌++◌, replicate}
+use Rattle.eon_unescape.specs.Views.{kept, Formed, BytesOf}
+use Rattle.eon_strings.specs.Views.{Behind}
+use Rattle.eon_strings.proofs.marks.behind.Given as goal
+
+abbrev pub invariant-loop-i : goal.invariant-loop-i
+invariant-loop-i l = Behind l.text l.quote l._i l.rest
