@@ -1,5 +1,5 @@
 -- A hexadecimal digit more.
-use Rattle.std.proofs.Common.{◌≡◌, ℕ, suc, ◌+◌, ◌*◌, ◌^◌, ◌<◌, List, ◌∷◌, Some, add-one, arith}
+use Rattle.std.proofs.Common.{◌≡◌, ℕ, ◌+◌, ◌*◌, ◌^◌, ◌<◌, List, ◌∷◌, Some, add-one, arith}
 use borrow.Author.Tests.{ne_eqb, lt-ltb}
 use lib.Pow.{pow-add, pow_mono}
 use Rattle.eon_spec.specs.Unquote.{unescape, digits, hex_digit}

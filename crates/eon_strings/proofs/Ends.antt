@@ -3,12 +3,12 @@ use mathlib.Core.Path.{◌≡◌, refl, sym, ap, ◌∙◌}
 use mathlib.Core.Logic.{◌⊎◌, inl, inr}
 use mathlib.Core.Bool.{Bool, true, false}
 use mathlib.Core.List.{List, [], ◌∷◌, ◌++◌, map, append-nil, append_assoc}
-use Prim.Native.Nat.{ℕ, zero, suc, ◌+◌, ◌-◌, ◌≤◌, ◌<◌}
+use Prim.Native.Nat.{ℕ, suc, ◌+◌, ◌-◌, ◌≤◌, ◌<◌}
 use native.Mathlib.Omega.{arith}
 use borrow.Author.Tests.{ne_eqb, le-leb, lt-leb}
 use lib.Dec.{leb}
-use lib.ListN.{length, get_or, drop, take, replicate, length-append, length-drop, length-replicate, get_or-replicate}
-use lib.Seq.{take-length, take-suc, take_all, take-nil, take_at, drop_at, drop-drop, get_or-drop, get_or-append_seam, get_or-append-add}
+use lib.ListN.{length, get_or, drop, take, replicate, length-append, length-replicate, get_or-replicate}
+use lib.Seq.{take-length, take-suc, take_at, drop_at, get_or-drop, get_or-append_seam, get_or-append-add}
 use native.Mathlib.Numerals.{add-one}
 use Rattle.eon_spec.specs.Base.{eq_list, elem}
 use Rattle.eon_spec.specs.Utf8.{Character, chars, chars_from, well_formed_len, joined, code_point, decode}

@@ -1,10 +1,9 @@
 -- Refusals of a quoted text name no kinds of tokens: their numbers are above 12.
-use Rattle.std.proofs.Common.{◌≡◌, refl, ap, ℕ, suc, ◌+◌, ◌-◌, ◌*◌, ◌<◌, Bool, true, false, cond, List, [], ◌∷◌, length, take, drop, Option, Some, None, arith}
+use Rattle.std.proofs.Common.{◌≡◌, refl, ℕ, suc, ◌+◌, ◌-◌, ◌*◌, ◌<◌, Bool, true, false, cond, List, [], ◌∷◌, length, take, drop, Option, Some, None, arith}
 use lib.Dec.{eqb, ltb}
 use Rattle.eon_spec.specs.Base.{elem, codes}
 use Rattle.eon_spec.specs.Utf8.{is_scalar}
-use Rattle.eon_spec.specs.Parse.{refusal}
-use Rattle.eon_spec.specs.Calls.{place, nowhere}
+use Rattle.eon_spec.specs.Calls.{nowhere}
 use Rattle.eon_spec.specs.Refused.{number_of, refusal_of}
 use Rattle.eon_spec.specs.Unquote.{Unescaped, value, fault, push, unescape, plain, backslash, blanks, unicode, digits, lookup, escapes, hex_digit, white_space, starts_with, ends_with, in_marks, one_line_only, drop_line_feed, unquote_chars}
 use Rattle.eon_spec.specs.Unquote as unquoting

@@ -1,8 +1,8 @@
 -- Marks, and what stands between them.
-use Rattle.std.proofs.Common.{◌≡◌, refl, sym, ap, ◌∙◌, ℕ, zero, suc, ◌+◌, ◌-◌, ◌<◌, Bool, true, false, ◌&&◌, cond, List, [], ◌∷◌, ◌++◌, length, take, drop, replicate, arith}
+use Rattle.std.proofs.Common.{◌≡◌, refl, sym, ap, ◌∙◌, ℕ, zero, suc, ◌-◌, ◌<◌, Bool, true, false, ◌&&◌, cond, List, [], ◌∷◌, ◌++◌, length, take, drop, replicate, arith}
 use borrow.Author.Tests.{ne_eqb, eqb-true, eq-eqb}
 use lib.Dec.{eqb}
-use Rattle.eon_spec.specs.Base.{eq_list, codes}
+use Rattle.eon_spec.specs.Base.{codes}
 use Rattle.eon_spec.specs.Unquote.{value, fault, unescape, plain, starts_with, ends_with, one_line_only, drop_line_feed, unquote_chars}
 use Rattle.eon_spec.specs.Unquote as unquoting
 use Rattle.eon_laws.proofs.Facts.{clash}

@@ -1,10 +1,10 @@
 -- A part of the quoted text has nothing to unescape: its bytes are its characters.
-use Rattle.std.proofs.Common.{◌≡◌, ap, sym, ◌∙◌, ℕ, ◌<◌, Bool, true, false, ◌||◌, not, List, length, arith}
+use Rattle.std.proofs.Common.{◌≡◌, ap, sym, ◌∙◌, ℕ, ◌<◌, true, false, ◌||◌, not, List, length, arith}
 use borrow.Author.Tests.{not-true}
 use Rattle.eon_spec.specs.Base.{elem, codes}
-use Rattle.eon_spec.specs.Utf8.{decode, encode}
+use Rattle.eon_spec.specs.Utf8.{decode}
 use Rattle.eon_spec.specs.Unquote.{value, unescape, plain, without, starts_with}
-use Rattle.eon_spec.specs.Calls.{After, after, done, part_of, is_part, opening}
+use Rattle.eon_spec.specs.Calls.{after, done, part_of, is_part, opening}
 use Rattle.eon_spec.specs.declared.Which.TheVariants.{Quoted}
 use Rattle.eon_laws.proofs.Facts.{and_left, and_right}
 use Rattle.eon_laws.proofs.Shown.{without_none}

@@ -1,5 +1,5 @@
 -- The outcome of the whole call, case by case.
-use mathlib.Core.Path.{◌≡◌, refl, sym, ap, ◌∙◌, subst}
+use mathlib.Core.Path.{◌≡◌, refl, sym, ap, ◌∙◌}
 use mathlib.Core.Bool.{true, false}
 use mathlib.Core.List.{List, []}
 use Prim.Native.Nat.{ℕ, ◌≤◌, ◌<◌}
@@ -18,7 +18,7 @@ use Rattle.eon_spec.specs.declared.refusal.Reason.{Reason}
 use Rattle.eon_spec.specs.declared.refusal.Reason.TheVariants.{Overlong, Garbled}
 use Rattle.eon_spec.specs.Parse.{refusal}
 use Rattle.eon_spec.specs.declared.Part.{Part}
-use Rattle.eon_spec.specs.Calls.{Outcome, done, refused_with, After, after, part_of, place, nowhere, checked, fill, written, is_part, opening, handed_back, unescaped_outcome, unquote_call}
+use Rattle.eon_spec.specs.Calls.{Outcome, done, refused_with, after, part_of, place, nowhere, checked, fill, written, is_part, opening, handed_back, unescaped_outcome, unquote_call}
 use Rattle.eon_spec.specs.declared.Which.TheVariants.{Quoted, Scratch}
 use Rattle.eon_laws.proofs.Checked.{checked_long, checked_bad, checked_good, good_text}
 use Rattle.eon_unescape.specs.Views.{kept, Reads}

@@ -1,5 +1,5 @@
 -- What the functions' answers say.
-use Rattle.std.specs.Prelude.{◌-◌, ◌≤◌, ◌≡◌, ℕ, Bool, true, false, List, [], ◌∷◌, ◌++◌, length, take, drop, replicate, Option, Some, None, Result, Ok, Err, ◌⊎◌}
+use Rattle.std.specs.Prelude.{◌≤◌, ◌≡◌, ℕ, Bool, false, List, [], ◌∷◌, ◌++◌, length, take, replicate, Option, Some, None, Result, Ok, Err, ◌⊎◌}
 use Rattle.std.specs.Borrow.{Bor}
 use Rattle.eon_spec.specs.Base.{eq_list, codes}
 use Rattle.eon_spec.specs.Refused.{number_of, refusal_of}

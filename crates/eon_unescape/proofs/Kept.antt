@@ -1,5 +1,5 @@
 -- The characters of a text without carriage returns, one by one.
-use Rattle.std.proofs.Common.{◌≡◌, refl, sym, ap, ◌∙◌, ℕ, zero, suc, ◌+◌, ◌-◌, ◌≤◌, ◌<◌, List, [], ◌∷◌, map, length, drop, take, length-drop, arith}
+use Rattle.std.proofs.Common.{◌≡◌, refl, sym, ap, ◌∙◌, ℕ, zero, suc, ◌-◌, ◌<◌, List, [], ◌∷◌, map, length, drop, take, length-drop, arith}
 use borrow.Author.Tests.{eq-eqb, ne_eqb}
 use lib.ListN.{take-append-drop}
 use Rattle.eon_spec.specs.Base.{elem}

@@ -2,12 +2,12 @@
 use mathlib.Core.Path.{◌≡◌, refl, sym, ap, ◌∙◌}
 use mathlib.Core.Logic.{◌⊎◌, inl, inr}
 use mathlib.Core.List.{List, [], ◌∷◌, ◌++◌}
-use Prim.Native.Nat.{ℕ, zero, suc, ◌+◌, ◌-◌, ◌/◌, ◌%◌, ◌≤◌, ◌<◌}
+use Prim.Native.Nat.{ℕ, zero, suc, ◌+◌, ◌/◌, ◌%◌, ◌≤◌, ◌<◌}
 use native.Mathlib.Omega.{arith}
 use native.Mathlib.Decide.{dec_le, dec_lt}
 use borrow.Author.Tests.{lt-ltb, le-ltb}
-use lib.ListN.{length, get_or, drop, take, length-append, take-append-drop, length-drop, get_or-append}
-use lib.Seq.{take-suc, take-append_seam, drop-append_seam, take-append-le, drop-append-le, get_or-drop, get_or-append_seam, length-take-le}
+use lib.ListN.{length, get_or, drop, take, length-append, take-append-drop, get_or-append}
+use lib.Seq.{take-append_seam, drop-append_seam, take-append-le, drop-append-le, get_or-append_seam}
 use Rattle.eon_spec.specs.Utf8.{Character, chars, well_formed_from, well_formed_len, joined, code_point, encode_char}
 use Rattle.eon_laws.proofs.Utf8.{chars_concat}
 use Rattle.eon_laws.proofs.Chars.{IsChar, AllChars, chars_are, all_formed}

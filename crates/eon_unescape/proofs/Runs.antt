@@ -1,14 +1,14 @@
 -- Bytes that stand for themselves: runs up to a backslash or a carriage return.
 use mathlib.Core.Path.{◌≡◌, refl, sym, ap, ◌∙◌}
 use mathlib.Core.Logic.{◌⊎◌, inl, inr}
-use mathlib.Core.Bool.{Bool, true, false, ◌||◌, not}
+use mathlib.Core.Bool.{Bool, true, false}
 use mathlib.Core.List.{List, [], ◌∷◌, ◌++◌, map, append-nil}
 use Prim.Native.Nat.{ℕ, suc, ◌+◌, ◌-◌, ◌/◌, ◌%◌, ◌≤◌, ◌<◌}
 use native.Mathlib.Omega.{arith}
 use native.Mathlib.Decide.{dec_lt}
-use borrow.Author.Tests.{eq-eqb, ne_eqb, eqb-true, eqb-false}
+use borrow.Author.Tests.{eq-eqb, ne_eqb, eqb-false}
 use lib.Dec.{eqb}
-use lib.ListN.{length, get_or, drop, take, length-append, length-take, take-append-drop, drop_of_length-le}
+use lib.ListN.{length, get_or, drop, take, length-append, take-append-drop, drop_of_length-le}
 use lib.Seq.{sets, drop-cons, length-take-le}
 use Rattle.std.specs.Prelude.{Result, Ok}
 use Rattle.std.specs.List.{take_while}

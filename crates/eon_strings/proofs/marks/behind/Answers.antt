@@ -1,4 +1,4 @@
-use Rattle.std.proofs.Common.{◌∙◌, arith}
+use Rattle.std.proofs.Common.{arith}
 use Rattle.eon_strings.proofs.Openings.{behind_none, behind_other}
 use Rattle.eon_strings.proofs.marks.behind.Goals as goal
 

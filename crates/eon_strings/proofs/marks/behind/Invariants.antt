@@ -1,5 +1,3 @@
-use Rattle.std.proofs.Common.{◌≡◌, ◌++◌, replicate}
-use Rattle.eon_unescape.specs.Views.{kept, Formed, BytesOf}
 use Rattle.eon_strings.specs.Views.{Behind}
 use Rattle.eon_strings.proofs.marks.behind.Given as goal
 

@@ -1,7 +1,6 @@
-use Rattle.std.proofs.Common.{◌∙◌, ap, sym, arith}
+use Rattle.std.proofs.Common.{◌∙◌, ap}
 use Rattle.eon_spec.specs.Refused.{number_of}
-use Rattle.eon_spec.specs.Unquote.{value, fault, unescape, plain, one_line_only, drop_line_feed}
-use Rattle.eon_escape.specs.Views.{reads_by}
+use Rattle.eon_spec.specs.Unquote.{value, unescape, plain, one_line_only, drop_line_feed}
 use Rattle.eon_unescape.specs.Views.{kept}
 use Rattle.std.proofs.lemmas.Result.{IfOk-weaker}
 use Rattle.eon_strings.specs.declared.marks.Contents.{Contents}

@@ -1,4 +1,4 @@
-use Rattle.std.proofs.Common.{◌∙◌, ap, not, sym, arith}
+use Rattle.std.proofs.Common.{◌∙◌, arith}
 use Rattle.std.proofs.lemmas.Grind.{common_steps}
 use Rattle.eon_strings.proofs.Bytes.{any_elem}
 use Rattle.eon_strings.proofs.strings.is_part.Goals as goal
