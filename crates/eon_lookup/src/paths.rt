@@ -50,35 +50,6 @@ pub fn is_key(sheet: Sheet, i: usize) -> bool
     sheet.is(i, RecordKind::Identifier) || sheet.is(i, RecordKind::String)
 }
 
-// The path that record i is, if it is one.
-fn read_path(list: Sheet, i: usize) -> Option<Keys>
-    requires { SomeValue list.text.now list.table.now i }
-    ensures { IsPath list.entry.text.now list.entry.table.now i result }
-{
-    if !list.is(i, RecordKind::List) {
-        return None;
-    }
-    let end = list.behind(i);
-    let mut path = Keys::new();
-    let mut j = i + 1;
-    while list.more(j, end) {
-        let k = list.after_prefix(j);
-        if path.len == KEYS_MAX || !is_key(list, k) {
-            return None;
-        }
-        path.places[path.len] = Place {
-            start: list.start(k),
-            end: list.text_end(k),
-        };
-        path.len += 1;
-        j = list.next_tree(j, end);
-    }
-    if path.len == 0 {
-        return None;
-    }
-    Some(path)
-}
-
 // How many paths the sheet's tree lists, stored in their order, if it is a list of paths.
 pub fn read_paths(list: Sheet, room: &mut [Keys; PATHS_MAX]) -> Option<usize>
     requires { (end : ℕ) × SomeTree list.text.now list.table.now end 0 }
@@ -100,4 +71,36 @@ pub fn read_paths(list: Sheet, room: &mut [Keys; PATHS_MAX]) -> Option<usize>
         j = list.next_tree(j, end);
     }
     Some(n)
+}
+
+// The path that record i is, if it is one.
+fn read_path(list: Sheet, i: usize) -> Option<Keys>
+    requires { SomeValue list.text.now list.table.now i }
+    ensures { IsPath list.entry.text.now list.entry.table.now i result }
+{
+    if !list.is(i, RecordKind::List) {
+        return None;
+    }
+    let end = list.behind(i);
+    let mut path = Keys::new();
+    let mut j = i + 1;
+    while list.more(j, end) {
+        let k = list.after_prefix(j);
+        if path.len == KEYS_MAX {
+            return None;
+        }
+        if !is_key(list, k) {
+            return None;
+        }
+        path.places[path.len] = Place {
+            start: list.start(k),
+            end: list.text_end(k),
+        };
+        path.len += 1;
+        j = list.next_tree(j, end);
+    }
+    if path.len == 0 {
+        return None;
+    }
+    Some(path)
 }

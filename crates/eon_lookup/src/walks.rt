@@ -55,12 +55,13 @@ impl<'a> Walk<'a> {
             let v = self.event.next_tree(j, end);
             let w = self.event.after_prefix(v);
             let n = self.match_key(k, w, live, d, answers, &mut next);
+            let on = &next[..n];
             j = self.event.next_tree(v, end);
             steps += 2;
-            if n == 0 || !self.event.is(w, RecordKind::Map) {
+            if on.is_empty() || !self.event.is(w, RecordKind::Map) {
                 continue;
             }
-            steps += self.inside_map(w, &next[..n], d + 1, answers);
+            steps += self.inside_map(w, on, d + 1, answers);
         }
         steps
     }

@@ -14,7 +14,7 @@ use Rattle.eon_lookup.proofs.Turns.{no_key, a_key}
 use Rattle.eon_lookup.proofs.Pairs.{key_here_lem}
 use Rattle.eon_lookup.proofs.Forms.{Listed, listed_start, listed_all, listed_tree, listed_next, listed_bad, listed_long, whole_none, whole_length, key_part, key_put, path_other, path_done, path_empty, path_bad, nine_keys}
 use Rattle.eon_lookup.proofs.paths.read_path.Goals as goal
-use Rattle.eon_lookup.proofs.paths.read_path.Goals.{In-loop-list, After-loop-list, then-path-eq-KEYS_MAX-via-then-path-eq-KEYS_MAX, then-path-eq-KEYS_MAX-via-else-path-eq-KEYS_MAX+then-not-is_key}
+use Rattle.eon_lookup.proofs.paths.read_path.Goals.{In-loop-list, After-loop-list}
 
 pub returns-then-not-is : goal.returns-then-not-is
 returns-then-not-is c = let a = c.args in
@@ -35,24 +35,32 @@ tree_here t v h =
     listed_tree key_of keys_of refl (λ t ts. refl) _ _ _ _ _ _ _ (t.loop-list.invariant.2 z.items z.closing z.at) (sym t.loop-list-test.ensures)
 
 pub returns-then-path-eq-KEYS_MAX : goal.returns-then-path-eq-KEYS_MAX
-returns-then-path-eq-KEYS_MAX c = let a = c.args in
-    let s = a.list.text.now in
-    let tb = a.list.table.now in
-    let t = (goal.at.returns-then-path-eq-KEYS_MAX c).In-loop-list in
+returns-then-path-eq-KEYS_MAX c =
+    let s = c.args.list.text.now in
     let l = c.loop-list in
-    let m = sym c.loop-list-test.ensures in
+    let full : l.path.len ≡ 8 = omega arith in
     record {
       sized = tt;
       is = λ v h.
-          let z = here t v h in
-          ap path_in z.is ∙ (elim c.then-path-eq-KEYS_MAX.branch [
-            | then-path-eq-KEYS_MAX-via-then-path-eq-KEYS_MAX w ↦
-                let full : l.path.len ≡ 8 = omega arith in
-                listed_long key_of keys_of refl (λ t ts. refl) s tb c.behind-end.result z.items z.closing l.j (whole s l.path) (l.invariant.2 z.items z.closing z.at) m (λ ks. within 1 8 (length ks)) (λ ks f. nine_keys ks (omega (arith, f, full, whole_length s l.path)))
-            | then-path-eq-KEYS_MAX-via-else-path-eq-KEYS_MAX+then-not-is_key w ↦
-                path_bad z.items z.closing (listed_bad key_of keys_of refl (λ t ts. refl) s tb c.behind-end.result z.items z.closing l.j (whole s l.path) (l.invariant.2 z.items z.closing z.at) m
-                (λ u b. key_here_lem s tb c.behind-end.result l.j c.after_prefix-k.result u b c.after_prefix-k.ensures ∙ no_key s tb c.after_prefix-k.result (sym w.if-not-is_key.ensures)))
-          ]);
+          let z = here (goal.at.returns-then-path-eq-KEYS_MAX c).In-loop-list v h in
+          ap path_in z.is
+          ∙ listed_long key_of keys_of refl (λ t ts. refl) s c.args.list.table.now c.behind-end.result z.items z.closing l.j (whole s l.path) (l.invariant.2 z.items z.closing z.at) (sym c.loop-list-test.ensures) (λ ks. within 1 8 (length ks))
+          (λ ks f. nine_keys ks (omega (arith, f, full, whole_length s l.path)));
+    }
+
+pub returns-then-not-is_key : goal.returns-then-not-is_key
+returns-then-not-is_key c =
+    let s = c.args.list.text.now in
+    let tb = c.args.list.table.now in
+    let l = c.loop-list in
+    let k = c.after_prefix-k.result in
+    record {
+      sized = tt;
+      is = λ v h.
+          let z = here (goal.at.returns-then-not-is_key c).In-loop-list v h in
+          ap path_in z.is
+          ∙ path_bad z.items z.closing (listed_bad key_of keys_of refl (λ t ts. refl) s tb c.behind-end.result z.items z.closing l.j (whole s l.path) (l.invariant.2 z.items z.closing z.at) (sym c.loop-list-test.ensures)
+          (λ u b. key_here_lem s tb c.behind-end.result l.j k u b c.after_prefix-k.ensures ∙ no_key s tb k (sym c.if-not-is_key.ensures)));
     }
 
 pub next_tree-j-requires : goal.next_tree-j-requires
@@ -88,9 +96,6 @@ behind t v h =
     let z = the_list _ _ _ _ t.behind-end.ensures v h (t.if-not-is.ensures.0 refl) in
     (z, listed_all key_of keys_of refl (λ t ts. refl) _ _ _ _ _ _ _ (t.loop-list.invariant.2 z.items z.closing z.at) (sym t.loop-list-test.ensures))
 
-positive : (n : ℕ) → (n ≡ 0 → ⊥) → 0 < n
-positive n h = omega arith
-
 pub returns-then-path-eq0 : goal.returns-then-path-eq0
 returns-then-path-eq0 c =
     let s = c.args.list.text.now in
@@ -106,7 +111,7 @@ pub returns : goal.returns
 returns c =
     let s = c.args.list.text.now in
     let l = c.loop-list in
-    let some : 0 < l.path.len = positive l.path.len c.if-path-eq0.false in
+    let some : 0 < l.path.len = omega arith in
     record {
       sized = (some, l.invariant.0);
       is = λ v h.

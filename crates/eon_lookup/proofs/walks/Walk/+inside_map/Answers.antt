@@ -6,11 +6,12 @@ use Rattle.eon_table.proofs.Walk.{more_in, value_in, value_kind, value_size_lem,
 use Rattle.eon_lookup.specs.Keys.{key_here, Going}
 use Rattle.eon_lookup.specs.Live.{keep, goes_on, Walked}
 use Rattle.eon_lookup.proofs.Containers.{the_map, in_map}
+use Rattle.eon_lookup.proofs.Lists.{empty, not_empty}
 use Rattle.eon_lookup.proofs.Turns.{going_at}
 use Rattle.eon_lookup.proofs.Pairs.{on_going, Inner, inner_none, inner_other, inner_map}
 use Rattle.eon_lookup.proofs.Through.{through_start, through_end, key_there, value_there, the_value, value_is, value_before, steps_fit, goes_past, turn, matched_length}
 use Rattle.eon_lookup.proofs.walks.Walk.+inside_map.Goals as goal
-use Rattle.eon_lookup.proofs.walks.Walk.+inside_map.Goals.{After-inside_map-steps, then-n-eq0-via-then-n-eq0, then-n-eq0-via-else-n-eq0+then-not-is}
+use Rattle.eon_lookup.proofs.walks.Walk.+inside_map.Goals.{After-inside_map-steps, then-is_empty-via-then-is_empty, then-is_empty-via-else-is_empty+then-not-is}
 
 pub behind-end-requires : goal.behind-end-requires
 behind-end-requires t c = let e = c.args.self.event in
@@ -40,14 +41,14 @@ overflow_add-steps t c = let kv = c.requires.map in
     let r = c.loop-next.invariant.2 kv.0 kv.1 kv.2 in
     omega (arith, steps_fit r (sym c.loop-next-test.ensures) c.after_prefix-k.ensures c.next_tree-v.ensures c.after_prefix-w.ensures, (in_map c.args.i c.behind-end.ensures kv.2).all, c.behind-end.ensures, c.requires.inside)
 
-pub loop-next-smaller-then-n-eq0 : goal.loop-next-smaller-then-n-eq0
-loop-next-smaller-then-n-eq0 t c = let kv = c.requires.map in
+pub loop-next-smaller-then-is_empty : goal.loop-next-smaller-then-is_empty
+loop-next-smaller-then-is_empty t c = let kv = c.requires.map in
     let r = c.loop-next.invariant.2 kv.0 kv.1 kv.2 in
     let m = sym c.loop-next-test.ensures in
     omega (arith, more_in c.args.self.event.table.now c.behind-end.result c.loop-next.j m, goes_past r m c.after_prefix-k.ensures c.next_tree-v.ensures c.after_prefix-w.ensures c.next_tree-j.result c.next_tree-j.ensures)
 
-pub loop-next-preserved-then-n-eq0 : goal.loop-next-preserved-then-n-eq0
-loop-next-preserved-then-n-eq0 t c = let a = c.args in
+pub loop-next-preserved-then-is_empty : goal.loop-next-preserved-then-is_empty
+loop-next-preserved-then-is_empty t c = let a = c.args in
     let s = a.self in
     let b = c.match_key-n.ensures in
     let m = sym c.loop-next-test.ensures in
@@ -59,19 +60,15 @@ loop-next-preserved-then-n-eq0 t c = let a = c.args in
           let r = c.loop-next.invariant.2 kvs cl h in
           let v = the_value r m in
           turn r m c.after_prefix-k.ensures c.next_tree-v.ensures c.after_prefix-w.ensures c.next_tree-j.result c.next_tree-j.ensures c.requires.going c.match_key-n.new.answers c.match_key-n.new.next c.match_key-n.result b c.match_key-n.new.answers 0
-          (elim c.then-n-eq0.branch [
-            | then-n-eq0-via-then-n-eq0 x ↦
-                let e : c.match_key-n.result ≡ 0 = omega arith in
-                inner_none s.text.now s.paths.now a.d key a.live.now c.requires.going w v c.match_key-n.new.answers b.size (sym b.list ∙ ap (λ (n : ℕ). take n c.match_key-n.new.next) e)
-            | then-n-eq0-via-else-n-eq0+then-not-is x ↦
+          (elim c.then-is_empty.branch [
+            | then-is_empty-via-then-is_empty x ↦
+                inner_none s.text.now s.paths.now a.d key a.live.now c.requires.going w v c.match_key-n.new.answers b.size (empty _ _ b.list x.if-is_empty.ensures)
+            | then-is_empty-via-else-is_empty+then-not-is x ↦
                 inner_other s.text.now s.paths.now a.d key a.live.now c.requires.going w v c.match_key-n.new.answers b.size
                 (λ e. false≢true (x.if-not-is.ensures.1 (value_kind s.event.text.now s.event.table.now w v (value_is r m c.after_prefix-k.ensures c.next_tree-v.ensures c.after_prefix-w.ensures) ∙ e)))
           ])
           (c.loop-next.steps + 2) (omega arith),
     )
-
-positive : (m n : ℕ) → m ≡ n → (n ≡ 0 → ⊥) → 0 < m
-positive m n e f = omega (arith, e)
 
 pub inside_map-steps-requires : goal.inside_map-steps-requires
 inside_map-steps-requires t c =
@@ -88,7 +85,7 @@ inside_map-steps-requires t c =
     let many = matched_length s.text.now s.paths.now a.d key a.live.now w c.loop-next.answers c.match_key-n.new.answers c.match_key-n.new.next c.match_key-n.result c.requires.few b in
     let on = keep (goes_on s.text.now s.paths.now a.d key) a.live.now in
     let g = on_going s.text.now s.paths.now a.d key a.live.now c.requires.going in
-    let f = going_at s.paths.now (a.d + 1) on g 0 (positive (length on) c.match_key-n.result many c.if-n-eq0.false) in
+    let f = going_at s.paths.now (a.d + 1) on g 0 (not_empty _ _ b.list c.if-is_empty.ensures) in
     let y = value_size_lem s.event.text.now s.event.table.now w (the_value r m) there in (
       omega (arith, c.decreases),
       (
@@ -115,7 +112,7 @@ inner_here t x kvs cl h =
     let b = x.match_key-n.ensures in
     let many = matched_length s.text.now s.paths.now a.d key a.live.now w x.loop-next.answers x.match_key-n.new.answers x.match_key-n.new.next x.match_key-n.result x.requires.few b in
     subst (λ (v : TokenValue). Inner s.text.now s.paths.now a.d key a.live.now x.requires.going w v x.match_key-n.new.answers x.inside_map-steps.new.answers x.inside_map-steps.result) (sym z.is)
-    (inner_map s.text.now s.paths.now a.d key a.live.now x.requires.going w z.items z.closing x.match_key-n.new.answers x.inside_map-steps.new.answers x.inside_map-steps.result (positive _ x.match_key-n.result many x.if-n-eq0.false)
+    (inner_map s.text.now s.paths.now a.d key a.live.now x.requires.going w z.items z.closing x.match_key-n.new.answers x.inside_map-steps.new.answers x.inside_map-steps.result (not_empty _ _ b.list x.if-is_empty.ensures)
     (subst (λ (l : List ℕ). Walked s.text.now s.paths.now (a.d + 1) l (suc w) z.items x.match_key-n.new.answers x.inside_map-steps.new.answers x.inside_map-steps.result) b.list
     (x.inside_map-steps.ensures z.items z.closing z.at)))
 
