@@ -13,7 +13,7 @@ use borrow.Author.Tests.{ne_eqb}
 use lib.Dec.{T, leb, ltb, eqb, eqb→eq, ltb→lt}
 use lib.ListN.{length, get_or, drop, drop_of_length-le}
 use lib.Seq.{drop-cons}
-use Rattle.eon_token.specs.Machine.{Found, miss, hit, class, classes, states, goes, accepts, upd, run, in_classes, mark_kind, span_of, class_of, one_s, inside_s, two_s, multi_s, plain_k, multi_k, finish, from_b}
+use Rattle.eon_token.specs.Machine.{Found, miss, hit, class, classes, states, goes, accepts, upd, run, in_classes, one_byte_kind, span_of, class_of, one_s, inside_s, two_s, multi_s, plain_k, multi_k, finish, from_b}
 use Rattle.eon_spec.specs.declared.token_kind.TokenKind.{TokenKind}
 use Rattle.eon_spec.specs.Token.{kind_number}
 use Rattle.eon_token.specs.Placed.{kind_of}
@@ -341,7 +341,7 @@ on_mark : ℕ → Option TokenKind → Bool
 on_mark c None = true
 on_mark c (Some k) = (below 19 (final? (goes 0 c)) && eqb (accepts (goes 0 c)) (kind_number k)) && ltb 0 (kind_number k)
 
-all_marks : T (below 256 (λ b. on_mark (class b) (mark_kind b)))
+all_marks : T (below 256 (λ b. on_mark (class b) (one_byte_kind b)))
 unfolding on_mark final? goes states accepts class classes
 all_marks = tt
 
@@ -360,7 +360,7 @@ module _ (c : ℕ) (k : TokenKind) (t : T (on_mark c (Some k))) where
 
 -- a byte that begins no token
 none? : ℕ → Bool
-none? b = in_classes 2 4 b || (is_some (mark_kind b) || (eqb b 47 || (eqb b 34 || (eqb b 39 || eqb (goes 0 (class b)) 1))))
+none? b = in_classes 2 4 b || (is_some (one_byte_kind b) || (eqb b 47 || (eqb b 34 || (eqb b 39 || eqb (goes 0 (class b)) 1))))
 
 all_none : T (below 256 none?)
 unfolding none? goes states class classes
@@ -402,16 +402,16 @@ module _ (text : List ℕ) (s : ℕ) (h : s < length text) where
     unfolding goes states accepts stays?
     comments l e' = slash ∙ move text (s + 1) l 4 15 7 miss e' refl refl ∙ spans 15 1 18 0 tt refl miss (s + 1 + 1) (drop (s + 1 + 1) text)
 
-  pub marked : get_or text s 0 < 256 → (k : TokenKind) → mark_kind (get_or text s 0) ≡ Some k → run 0 miss s (drop s text) ≡ hit (kind_number k) (s + 1)
+  pub marked : get_or text s 0 < 256 → (k : TokenKind) → one_byte_kind (get_or text s 0) ≡ Some k → run 0 miss s (drop s text) ≡ hit (kind_number k) (s + 1)
   marked l k e =
       let m = goes 0 (class (get_or text s 0)) in
-      let t : T (on_mark (class (get_or text s 0)) (Some k)) = subst (λ (o : Option TokenKind). T (on_mark (class (get_or text s 0)) o)) e (below_at 256 (λ b. on_mark (class b) (mark_kind b)) all_marks (get_or text s 0) l) in
+      let t : T (on_mark (class (get_or text s 0)) (Some k)) = subst (λ (o : Option TokenKind). T (on_mark (class (get_or text s 0)) o)) e (below_at 256 (λ b. on_mark (class b) (one_byte_kind b)) all_marks (get_or text s 0) l) in
       starts m (class (get_or text s 0)) refl refl
       ∙ final m (on_final (class (get_or text s 0)) k t) miss (s + 1) (drop (s + 1) text)
       ∙ ap (λ (a : ℕ). upd a miss (s + 1)) (on_kind (class (get_or text s 0)) k t)
       ∙ upd_some (kind_number k) miss (s + 1) (on_some (class (get_or text s 0)) k t)
 
-  pub nothing_starts : (b : ℕ) → get_or text s 0 ≡ b → b < 256 → in_classes 2 4 b ≡ false → mark_kind b ≡ None → (b ≡ 47 → ⊥) → (b ≡ 34 → ⊥) → (b ≡ 39 → ⊥) → run 0 miss s (drop s text) ≡ miss
+  pub nothing_starts : (b : ℕ) → get_or text s 0 ≡ b → b < 256 → in_classes 2 4 b ≡ false → one_byte_kind b ≡ None → (b ≡ 47 → ⊥) → (b ≡ 34 → ⊥) → (b ≡ 39 → ⊥) → run 0 miss s (drop s text) ≡ miss
   unfolding none?
   nothing_starts b z l e m p q r =
       starts 1 (class b) (ap class z)
@@ -419,6 +419,6 @@ module _ (text : List ℕ) (s : ℕ) (h : s < length text) where
       (or-false (eqb b 39) _ (ne_eqb b 39 r)
       (or-false (eqb b 34) _ (ne_eqb b 34 q)
       (or-false (eqb b 47) _ (ne_eqb b 47 p)
-      (or-false (is_some (mark_kind b)) _ (ap (λ (o : Option TokenKind). is_some o) m)
+      (or-false (is_some (one_byte_kind b)) _ (ap (λ (o : Option TokenKind). is_some o) m)
       (or-false (in_classes 2 4 b) _ e (below_at 256 none? all_none b l)))))))
       ∙ dead miss (s + 1) (drop (s + 1) text)

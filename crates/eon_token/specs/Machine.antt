@@ -117,8 +117,8 @@ closed k None = miss
 closed k (Some e) = hit k e
 
 -- the kind of a token of one byte
-abbrev pub mark_kind : ℕ → Option TokenKind
-mark_kind b =
+abbrev pub one_byte_kind : ℕ → Option TokenKind
+one_byte_kind b =
     cond (eqb b 91) (Some OpenList)
     (cond (eqb b 93) (Some CloseList)
     (cond (eqb b 123) (Some OpenBrace)

@@ -2,7 +2,7 @@
 ghost use Rattle.std.specs.Prelude.{◌≡◌, Bool, true, false, ℕ, ◌+◌, ◌≤◌, ◌<◌, length, get_or, drop, Some, MatchBool};
 ghost use Rattle.eon_spec.specs.Utf8.{is_utf8, Boundary};
 ghost use Rattle.eon_token.specs.Placed.{placed_at, kind_of};
-ghost use Rattle.eon_token.specs.Machine.{class, mark_kind, in_classes, class_of, byte_of, run, closed, inside_s, multi_s, plain_k, multi_k, Found, finish, from_b, KeepsWhile};
+ghost use Rattle.eon_token.specs.Machine.{class, one_byte_kind, in_classes, class_of, byte_of, run, closed, inside_s, multi_s, plain_k, multi_k, Found, finish, from_b, KeepsWhile};
 
 use eon_spec::TokenKind;
 
@@ -95,7 +95,7 @@ fn lexeme(text: &[u8], start: usize) -> PlacedToken
         let end = end_while(text, start + 1, is_number);
         return PlacedToken::new(TokenKind::Number, start, end);
     }
-    if let Some(kind) = mark(b) {
+    if let Some(kind) = one_byte(b) {
         return PlacedToken::new(kind, start, start + 1);
     }
     match b {
@@ -107,8 +107,8 @@ fn lexeme(text: &[u8], start: usize) -> PlacedToken
 }
 
 // The kind of a token of one byte.
-fn mark(b: u8) -> Option<TokenKind>
-    ensures { result ≡ mark_kind b }
+fn one_byte(b: u8) -> Option<TokenKind>
+    ensures { result ≡ one_byte_kind b }
 {
     match b {
         b'[' => Some(TokenKind::OpenList),
@@ -176,11 +176,8 @@ fn stray(text: &[u8], start: usize) -> PlacedToken
     requires { start < length text.now }
     ensures { result ≡ finish start (drop start text.now) Found.miss }
 {
-    PlacedToken::new(
-        TokenKind::Invalid,
-        start,
-        end_while(text, start + 1, is_further),
-    )
+    let end = end_while(text, start + 1, is_further);
+    PlacedToken::new(TokenKind::Invalid, start, end)
 }
 
 // The end of a string with one quote on each side, whose inside starts at `from`.

@@ -10,4 +10,4 @@ pub returns : goal.returns
 returns c =
     let s = c.args.text.now in
     let start = c.args.start in
-    c.new.ensures ∙ made (Some Invalid) start (span_keeps _ s 5 5 (λ b e. sym e) (λ b e. sym e) (start + 1) _ c.end_while.ensures.ends ∙ ap (λ (l : List ℕ). start + 1 + span_of 5 5 l) (sym (drop-drop 1 start s)))
+    c.new.ensures ∙ made (Some Invalid) start (span_keeps _ s 5 5 (λ b e. sym e) (λ b e. sym e) (start + 1) _ c.end_while-end.ensures.ends ∙ ap (λ (l : List ℕ). start + 1 + span_of 5 5 l) (sym (drop-drop 1 start s)))
