@@ -1,12 +1,8 @@
 -- The tests of bytes that the scanner makes are those of the classes: each by one computed test of all bytes. And where a walk over the
 -- bytes that pass a test ends.
-use Rattle.std.proofs.Common.{◌≡◌, refl, sym, ap, subst, ◌∙◌, ℕ, zero, suc, ◌+◌, ◌-◌, ◌≤◌, ◌<◌, Bool, true, false, not, ◌||◌, ◌&&◌, ◌⊎◌, inl, inr, T, leb, ltb, nat_eq, List, length, get_or, take, drop, Option, None, Some, MatchOption, HoldsAt, arith, lit<, lit≤}
-use Rattle.std.specs.List.{AllWithin}
-use Rattle.std.proofs.lemmas.List.{get_or-drop}
+use Rattle.std.proofs.Common.{◌≡◌, refl, sym, ap, ◌∙◌, ℕ, zero, suc, ◌+◌, ◌-◌, ◌≤◌, ◌<◌, Bool, true, false, cond, not, ◌||◌, ◌&&◌, ◌⊎◌, inl, inr, T, leb, ltb, nat_eq, List, length, get_or, drop, arith, lit<, lit≤}
 use native.Mathlib.Decide.{dec_lt}
-use Rattle.std.proofs.Math.Seq.{take-length}
-use lib.ListN.{length-drop}
-use Rattle.std.specs.Char.{is_ascii_alphabetic, is_ascii_digit, is_ascii_whitespace}
+use Rattle.std.specs.Char.{is_ascii_lowercase, is_ascii_uppercase, is_ascii_digit}
 use Rattle.eon_laws.proofs.Facts.{le_of, and_left, and_right}
 use Rattle.eon_token.specs.declared.token_kind.Quote.{Quote}
 use Rattle.eon_token.specs.declared.token_kind.Quote.TheVariants.{Double, Single}
@@ -22,21 +18,21 @@ same : (f g : ℕ → Bool) → T (below 256 (alike f g)) → (b : ℕ) → b < 
 unfolding alike
 same f g t b h = eq?-eq (f b) (g b) (below_at 256 (alike f g) t b h)
 
-pub blank_is : (b : ℕ) → b < 256 → in_classes 0 1 b ≡ is_ascii_whitespace b
+pub blank_is : (b : ℕ) → b < 256 → in_classes 0 1 b ≡ (nat_eq b 32 || (nat_eq b 9 || (nat_eq b 10 || (nat_eq b 12 || nat_eq b 13))))
 unfolding alike eq? class classes
-blank_is = same (in_classes 0 1) is_ascii_whitespace tt
+blank_is = same (in_classes 0 1) (λ b. nat_eq b 32 || (nat_eq b 9 || (nat_eq b 10 || (nat_eq b 12 || nat_eq b 13)))) tt
 
-pub letter_is : (b : ℕ) → b < 256 → in_classes 2 2 b ≡ (is_ascii_alphabetic b || nat_eq b 95)
+pub letter_is : (b : ℕ) → b < 256 → in_classes 2 2 b ≡ (is_ascii_lowercase b || (is_ascii_uppercase b || nat_eq b 95))
 unfolding alike eq? class classes
-letter_is = same (in_classes 2 2) (λ b. is_ascii_alphabetic b || nat_eq b 95) tt
+letter_is = same (in_classes 2 2) (λ b. is_ascii_lowercase b || (is_ascii_uppercase b || nat_eq b 95)) tt
 
-pub word_is : (b : ℕ) → b < 256 → in_classes 2 3 b ≡ (in_classes 2 2 b || is_ascii_digit b)
+pub word_is : (b : ℕ) → b < 256 → in_classes 2 3 b ≡ (cond (leb 97 b) (leb b 122) (in_classes 2 2 b || is_ascii_digit b))
 unfolding alike eq? class classes
-word_is = same (in_classes 2 3) (λ b. in_classes 2 2 b || is_ascii_digit b) tt
+word_is = same (in_classes 2 3) (λ b. cond (leb 97 b) (leb b 122) (in_classes 2 2 b || is_ascii_digit b)) tt
 
-pub number_is : (b : ℕ) → b < 256 → in_classes 2 4 b ≡ (in_classes 2 3 b || (nat_eq b 43 || (nat_eq b 45 || nat_eq b 46)))
+pub number_is : (b : ℕ) → b < 256 → in_classes 2 4 b ≡ (in_classes 2 3 b || (nat_eq b 46 || (nat_eq b 45 || nat_eq b 43)))
 unfolding alike eq? class classes
-number_is = same (in_classes 2 4) (λ b. in_classes 2 3 b || (nat_eq b 43 || (nat_eq b 45 || nat_eq b 46))) tt
+number_is = same (in_classes 2 4) (λ b. in_classes 2 3 b || (nat_eq b 46 || (nat_eq b 45 || nat_eq b 43))) tt
 
 pub further_is : (b : ℕ) → b < 256 → in_classes 5 5 b ≡ (leb 128 b && ltb b 192)
 unfolding alike eq? class classes
@@ -96,9 +92,6 @@ pub only_quote : (q : Quote) (b : ℕ) → class b ≡ class_of q → b ≡ byte
 only_quote Double b e = only_double b e
 only_quote Single b e = only_single b e
 
-pub all_from : (s : List ℕ) (from : ℕ) → take (length s - from) (drop from s) ≡ drop from s
-all_from s from = ap (λ (n : ℕ). take n (drop from s)) (sym (length-drop from s)) ∙ take-length (drop from s)
-
 module _ (passes : ℕ → Bool → Type 0) (s : List ℕ) where
   -- the bytes that pass are those of the classes lo to hi
   pub span_keeps : (lo hi : ℕ) → ((b : ℕ) → passes b true → in_classes lo hi b ≡ true) → ((b : ℕ) → passes b false → in_classes lo hi b ≡ false)
@@ -117,31 +110,3 @@ module _ (passes : ℕ → Bool → Type 0) (s : List ℕ) where
       go (suc n) i e f =
           let on : span_of lo hi (drop i s) ≡ suc (span_of lo hi (drop (i + 1) s)) = span_yes s i lo hi (omega (arith, k.within)) (in_ (get_or s i 0) (f i (omega arith) (omega arith))) in
           omega (arith, go n (i + 1) (omega arith) (λ j h l. f j (omega arith) l))
-
-  -- what `position` finds of those that do not pass
-  module _ (from : ℕ) (h : from ≤ length s) where
-    abbrev pub Found : Option ℕ → Type 0
-    Found r = MatchOption r (AllWithin (λ b. passes b true) (drop from s) 0 (length (drop from s))) (λ i. (i < length (drop from s)) × HoldsAt (λ b. passes b false) (drop from s) i × AllWithin (λ b. passes b true) (drop from s) 0 i)
-
-    at_from : (k : ℕ) → get_or (drop from s) k 0 ≡ get_or s (from + k) 0
-    at_from k = get_or-drop from s k 0
-
-    pub keeps_some : (r : Option ℕ) (n : ℕ) → r ≡ Some n → Found r → KeepsWhile passes s from (from + n)
-    keeps_some r n e m =
-        let f = rw e at m in
-        record {
-          behind = omega arith;
-          within = omega (arith, f.0, length-drop from s);
-          inside = λ i l u. subst (λ x. passes x true) (at_from (i - from) ∙ ap (λ j. get_or s j 0) (omega arith)) (f.2 (i - from) 0 (omega arith) (omega arith));
-          stops = λ l. subst (λ x. passes x false) (at_from n) (f.1 0);
-        }
-
-    pub keeps_none : (r : Option ℕ) → r ≡ None → Found r → KeepsWhile passes s from (length s)
-    keeps_none r e m =
-        let f = rw e at m in
-        record {
-          behind = h;
-          within = omega arith;
-          inside = λ i l u. subst (λ x. passes x true) (at_from (i - from) ∙ ap (λ j. get_or s j 0) (omega arith)) (f (i - from) 0 (omega arith) (omega (arith, length-drop from s)));
-          stops = λ l. absurd (omega arith);
-        }
