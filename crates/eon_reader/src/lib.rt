@@ -16,6 +16,7 @@ use eon_utf8::well_formed_len;
 // The most bytes of a text that is read.
 const MOST: usize = 65535;
 
+// Callers may make one of any fields, so that where it stands is asked by `next` and not by the type.
 #[derive(Clone, Copy)]
 pub struct Reader<'a> {
     pub text: &'a [u8],
@@ -34,7 +35,7 @@ impl<'a> Reader<'a> {
         }
     }
 
-    // The next token; the reader then stands behind it.
+    // The next token; the reader then stands behind it. The end of the text is answered again and again, with its place: no Iterator.
     pub fn next(&mut self) -> PlacedToken
         requires { Stands self.old.text.now self.old.next }
         ensures token { result ≡ placed_at self.old.text.now self.old.next }

@@ -81,7 +81,8 @@ pub fn next_token(text: &[u8], at: usize) -> PlacedToken
     }
 }
 
-// The token at a byte that is no white space.
+// The token at a byte that is no white space. Text and place stay two arguments, here and below: a struct of both would be made anew,
+// and its invariant proved anew, at each step from `start` on.
 fn lexeme(text: &[u8], start: usize) -> PlacedToken
     requires { start < length text.now }
     ensures { result ≡ from_b start (drop start text.now) }
