@@ -37,14 +37,6 @@ module _ (s tb : List ℕ) where
 
 -- ---- a gap by the table
 
-pub gap_first : (o : Settings) (tb : List ℕ) (first : Bool) (i : ℕ) → first ≡ true → [] ≡ gap_at o tb first i
-gap_first o tb true i e = refl
-gap_first o tb false i e = clash e refl
-
-pub gap_lines : (o : Settings) (tb : List ℕ) (first : Bool) (i : ℕ) → first ≡ false → word tb i 0 ≡ 7 → o.newline ≡ gap_at o tb first i
-gap_lines o tb true i e f = clash refl e
-gap_lines o tb false i e f = rw (eq-eqb (word tb i 0) 7 f, gap_at)
-
 pub gap_none : (o : Settings) (tb : List ℕ) (first : Bool) (i : ℕ) → first ≡ false → (word tb i 0 ≡ 7 → ⊥) → [] ≡ gap_at o tb first i
 gap_none o tb true i e f = clash refl e
 gap_none o tb false i e f = rw (ne_eqb (word tb i 0) 7 f, gap_at)

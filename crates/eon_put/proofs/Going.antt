@@ -21,9 +21,6 @@ module _ {A : Type 0} (puts : A → List ℕ → A → Type 0) where
   pub going_from : {s t : A} {b rest : List ℕ} → puts s b t → Going s (b ++ rest) t rest
   going_from {b = b} p = record { done = b; put = p; whole = refl }
 
-  pub going_start : ((s : A) → puts s [] s) → {s : A} {total : List ℕ} → Going s total s total
-  going_start nothing {s} = record { done = []; put = nothing s; whole = refl }
-
   pub going_step : Appends → {s t u : A} {total x left rest : List ℕ} → Going s total t left → left ≡ x ++ rest → puts t x u → Going s total u rest
   going_step append {s} {t} {u} {x = x} {rest = rest} g e p = record {
     done = g.done ++ x;
