@@ -1,4 +1,5 @@
 pub mod Tests
+pub mod KindCodes
 pub mod Auto
 pub mod Steps
 pub mod Longest

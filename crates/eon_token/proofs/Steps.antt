@@ -1,3 +1,4 @@
+use Rattle.std.specs.Prelude.{Option, Some}
 -- What the loops need: one more byte of a span or of the automaton's run, and where single states go.
 use mathlib.Core.Path.{◌≡◌, refl, sym, ap, ap₂, subst, ◌∙◌}
 use mathlib.Core.Bool.{Bool, true, false, not, ◌&&◌, ◌||◌, cond}
@@ -11,6 +12,8 @@ use lib.Dec.{T, leb, ltb, eqb, eqb→eq, lit<, lit≤}
 use lib.ListN.{length, get_or, drop, drop_of_length-le}
 use lib.Seq.{drop-cons}
 use Rattle.eon_token.specs.Machine.{Found, miss, hit, class, classes, states, goes, accepts, upd, run, span_of, before, closed_at, Quote, dq, sq, one_s, inside_s, two_s, multi_s, plain_k, multi_k, finish, from_b}
+use Rattle.eon_spec.specs.declared.token_kind.TokenKind.{TokenKind}
+use Rattle.eon_token.specs.Placed.{kind_of}
 use Rattle.eon_token.specs.declared.token_kind.PlacedToken.{PlacedToken}
 use Rattle.eon_token.proofs.Tests.{below, below_at, eq?, class_small, outside?, alone_outside, and_left, and_right, or-false}
 
@@ -240,7 +243,7 @@ sq_run i (b ∷ l) = at (leb 0 (class b) && leb (class b) 17) (goes 19 (class b)
       λ h. absurd (not-suc-le-zero h),
     )
 
-pub made : (k s : ℕ) {a b : ℕ} → a ≡ b → ◌≡◌ {A = PlacedToken} (record { kind = k; start = s; end = a }) (record { kind = k; start = s; end = b })
+pub made : (k : Option TokenKind) (s : ℕ) {a b : ℕ} → a ≡ b → ◌≡◌ {A = PlacedToken} (record { kind = k; start = s; end = a }) (record { kind = k; start = s; end = b })
 made k s p = λ i. record { kind = k; start = s; end = p i }
 
 one_same : {q : ℕ} → Quote q → T (below 19 (λ k. eqb k q || eqb (goes (one_s q) k) (goes (inside_s q) k)))
@@ -328,8 +331,8 @@ closed_some k (suc e) f p z = p
 
 -- a token that was found, as the functions return it
 module _ (text : List ℕ) (start : ℕ) where
-  pub found : (k j e : ℕ) → k ≡ j → run 0 miss start (drop start text) ≡ hit j e → ◌≡◌ {A = PlacedToken} (record { kind = k; start = start; end = e }) (from_b start (drop start text))
-  found k j e i p = (λ x. record { kind = i x; start = start; end = e }) ∙ sym (ap (finish start (drop start text)) p)
+  pub found : (k : TokenKind) (j e : ℕ) → k ≡ kind_of j → run 0 miss start (drop start text) ≡ hit j e → ◌≡◌ {A = PlacedToken} (record { kind = Some k; start = start; end = e }) (from_b start (drop start text))
+  found k j e i p = (λ x. record { kind = Some (i x); start = start; end = e }) ∙ sym (ap (finish start (drop start text)) p)
 
   -- what was found by the automaton's run
   pub ran : (r : PlacedToken) (f : Found) → r ≡ finish start (drop start text) f → run 0 miss start (drop start text) ≡ f → r ≡ from_b start (drop start text)

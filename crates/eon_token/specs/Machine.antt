@@ -1,7 +1,9 @@
 -- The automaton of the rules over bytes: 31 states and 19 classes, what it does with the bytes from a place on, and the parts of that
 -- which the inner functions promise. `proofs/Auto.antt` shows that it is the rules'.
-use Rattle.std.specs.Prelude.{◌&&◌, cond, List, [], ◌∷◌, ℕ, zero, suc, ◌+◌, ◌-◌, leb, ltb, eqb, get_or, drop}
+use Rattle.std.specs.Prelude.{◌&&◌, cond, List, [], ◌∷◌, ℕ, zero, suc, ◌+◌, ◌-◌, leb, ltb, eqb, get_or, drop, Some}
 use Rattle.eon_spec.specs.Base.{codes}
+use Rattle.eon_spec.specs.declared.token_kind.TokenKind.TheVariants.{Invalid}
+use Rattle.eon_token.specs.Placed.{kind_of}
 use Rattle.eon_token.specs.declared.token_kind.PlacedToken.{PlacedToken}
 
 -- a rule's number and where its match ends; or no rule matches
@@ -132,8 +134,8 @@ multi_k q = cond (eqb q 8) 14 15
 
 -- the token of the bytes bs, which stand at `start` and do not begin with white space
 abbrev pub finish : ℕ → List ℕ → Found → PlacedToken
-finish start bs miss = record { kind = 0; start = start; end = start + 1 + span_of 5 5 (drop 1 bs) }
-finish start bs (hit k e) = record { kind = k; start = start; end = e }
+finish start bs miss = record { kind = Some Invalid; start = start; end = start + 1 + span_of 5 5 (drop 1 bs) }
+finish start bs (hit k e) = record { kind = Some (kind_of k); start = start; end = e }
 
 abbrev pub from_b : ℕ → List ℕ → PlacedToken
 from_b start bs = finish start bs (run 0 miss start bs)

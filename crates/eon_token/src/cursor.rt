@@ -1,5 +1,5 @@
 // The tokens of a text one after the other, each scanned once (PeekableIter of parse.rs).
-ghost use Rattle.std.specs.Prelude.{◌≡◌, true, false, ◌≤◌, ◌<◌, length};
+ghost use Rattle.std.specs.Prelude.{◌≡◌, true, false, ◌≤◌, length, IsSome};
 ghost use Rattle.eon_spec.specs.Utf8.{is_utf8};
 ghost use Rattle.eon_spec.specs.Token.{tokens};
 ghost use Rattle.eon_spec.specs.Parse.{behind, skip};
@@ -38,7 +38,7 @@ impl Cursor {
 
     // Behind the next token: only the token after it is scanned.
     pub fn next(self, text: &[u8]) -> Cursor
-        requires { (Standing text.now self) × (self.peeked.kind < 16) }
+        requires { (Standing text.now self) × IsSome self.peeked.kind }
         ensures place { result ≡ cursor_at text.now (next_span text.now (place_of self)) }
         ensures stands { stands_for text.now result ≡ skip (stands_for text.now self) }
     {

@@ -1,13 +1,16 @@
 // The tokens of a text, one after the other: the longest match of the printed rules at a place.
-ghost use Rattle.std.specs.Prelude.{◌≡◌, true, ℕ, ◌+◌, ◌≤◌, ◌<◌, length, get_or, drop};
+ghost use Rattle.std.specs.Prelude.{◌≡◌, true, ℕ, ◌+◌, ◌-◌, ◌≤◌, ◌<◌, length, get_or, drop};
 ghost use Rattle.eon_spec.specs.Utf8.{is_utf8, Boundary};
-ghost use Rattle.eon_token.specs.Placed.{placed_at};
+ghost use Rattle.eon_spec.specs.Token.{kind_number};
+ghost use Rattle.eon_token.specs.Placed.{placed_at, kind_of};
 ghost use Rattle.eon_token.specs.Machine.{class, span_of, before, run, closed_at, Quote, inside_s, multi_s, plain_k, multi_k, Found, finish, from_b};
 
-// kind: 1 to 15 in the order of the enum TokenKind, 0 for an invalid token, 16 at the end of the text.
-#[derive(Clone, Copy)]
+use eon_spec::token_kind::TokenKind;
+
+// A token and its place in bytes; no kind at the end of the text.
+#[derive(Clone, Copy, PartialEq, Eq)]
 pub struct PlacedToken {
-    pub kind: u32,
+    pub kind: Option<TokenKind>,
     pub start: usize,
     pub end: usize,
 }
@@ -215,17 +218,17 @@ fn stray(text: &[u8], start: usize) -> PlacedToken
     requires { start < length text.now }
     ensures { result ≡ finish start (drop start text.now) Found.miss }
 {
-    let kind = 0;
+    let kind = Some(TokenKind::Invalid);
     let end = span(text, start + 1, 5, 5);
     PlacedToken { kind, start, end }
 }
 
 // The token at two quotes of class q: the empty string of the kind k, or a string between three quotes if there is its end.
-fn twice(text: &[u8], start: usize, q: u8, k: u32) -> PlacedToken
-    requires { (start + 1 < length text.now) × Quote q × (k ≡ plain_k q) × (class (get_or text.now start 0) ≡ q) × (class (get_or text.now (start + 1) 0) ≡ q) }
+fn twice(text: &[u8], start: usize, q: u8, k: TokenKind, m: TokenKind) -> PlacedToken
+    requires { (start + 1 < length text.now) × Quote q × (k ≡ kind_of (plain_k q)) × (m ≡ kind_of (multi_k q)) × (class (get_or text.now start 0) ≡ q) × (class (get_or text.now (start + 1) 0) ≡ q) }
     ensures { result ≡ from_b start (drop start text.now) }
 {
-    let kind = k;
+    let kind = Some(k);
     let one = start + 1;
     let end = one + 1;
     if text.len() <= end {
@@ -238,23 +241,23 @@ fn twice(text: &[u8], start: usize, q: u8, k: u32) -> PlacedToken
     if close == 0 {
         return PlacedToken { kind, start, end };
     }
-    let kind = k + 2;
+    let kind = Some(m);
     let end = close;
     PlacedToken { kind, start, end }
 }
 
 // The token at a quote of class q; k is the kind of a string between two of them.
-fn quoted(text: &[u8], start: usize, q: u8, k: u32) -> PlacedToken
-    requires { (start < length text.now) × Quote q × (k ≡ plain_k q) × (class (get_or text.now start 0) ≡ q) }
+fn quoted(text: &[u8], start: usize, q: u8, k: TokenKind, m: TokenKind) -> PlacedToken
+    requires { (start < length text.now) × Quote q × (k ≡ kind_of (plain_k q)) × (m ≡ kind_of (multi_k q)) × (class (get_or text.now start 0) ≡ q) }
     ensures { result ≡ from_b start (drop start text.now) }
 {
-    let kind = k;
+    let kind = Some(k);
     let one = start + 1;
     if text.len() <= one {
         return stray(text, start);
     }
     if class(text[one]) == q {
-        return twice(text, start, q, k);
+        return twice(text, start, q, k, m);
     }
     let end = close_one(text, one, q);
     if end == 0 {
@@ -275,18 +278,36 @@ fn slash(text: &[u8], start: usize) -> PlacedToken
     if class(text[next]) != 7 {
         return stray(text, start);
     }
-    let kind = 1;
+    let kind = Some(TokenKind::Comment);
     let end = find(text, next + 1, 10);
     PlacedToken { kind, start, end }
 }
 
-// The token at `start`, of the kind `kind`, that goes on as long as the classes are in 2 to hi.
-fn word(text: &[u8], start: usize, hi: u8, kind: u32) -> PlacedToken
+// The token at `start`, of the kind k, that goes on as long as the classes are in 2 to hi.
+fn word(text: &[u8], start: usize, hi: u8, k: TokenKind) -> PlacedToken
     requires { start < length text.now }
-    ensures { result ≡ finish start (drop start text.now) (Found.hit kind (start + 1 + span_of 2 hi (drop (start + 1) text.now))) }
+    ensures { result ≡ finish start (drop start text.now) (Found.hit (kind_number k) (start + 1 + span_of 2 hi (drop (start + 1) text.now))) }
 {
+    let kind = Some(k);
     let end = span(text, start + 1, 2, hi);
     PlacedToken { kind, start, end }
+}
+
+// The kind of a token of one byte of the class k.
+fn one_byte(k: u8) -> TokenKind
+    requires { (10 ≤ k) × (k < 18) }
+    ensures { result ≡ kind_of (k - 8) }
+{
+    match k {
+        10 => TokenKind::OpenList,
+        11 => TokenKind::CloseList,
+        12 => TokenKind::OpenBrace,
+        13 => TokenKind::CloseBrace,
+        14 => TokenKind::OpenParen,
+        15 => TokenKind::CloseParen,
+        16 => TokenKind::Colon,
+        _ => TokenKind::Comma,
+    }
 }
 
 // The token at a byte that is no white space.
@@ -296,27 +317,39 @@ fn lexeme(text: &[u8], start: usize) -> PlacedToken
 {
     let k = class(text[start]);
     if k == 2 {
-        return word(text, start, 3, 10);
+        return word(text, start, 3, TokenKind::Identifier);
     }
     if k == 3 {
-        return word(text, start, 4, 11);
+        return word(text, start, 4, TokenKind::Number);
     }
     if k == 4 {
-        return word(text, start, 4, 11);
+        return word(text, start, 4, TokenKind::Number);
     }
     if k == 7 {
         return slash(text, start);
     }
     if k == 8 {
-        return quoted(text, start, 8, 12);
+        return quoted(
+            text,
+            start,
+            8,
+            TokenKind::DoubleQuotedString,
+            TokenKind::MultilineBasicString,
+        );
     }
     if k == 18 {
-        return quoted(text, start, 18, 13);
+        return quoted(
+            text,
+            start,
+            18,
+            TokenKind::SingleQuotedString,
+            TokenKind::MultilineLiteralString,
+        );
     }
     if k < 10 {
         return stray(text, start);
     }
-    let kind = k as u32 - 8;
+    let kind = Some(one_byte(k));
     let end = start + 1;
     PlacedToken { kind, start, end }
 }
@@ -330,7 +363,7 @@ pub fn next_token(text: &[u8], at: usize) -> PlacedToken
     if start < text.len() {
         return lexeme(text, start);
     }
-    let kind = 16;
+    let kind = None;
     let end = start;
     PlacedToken { kind, start, end }
 }

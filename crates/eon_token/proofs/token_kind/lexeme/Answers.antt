@@ -2,6 +2,8 @@ use mathlib.Core.Path.{refl}
 use Prim.Native.Nat.{◌+◌, ◌-◌}
 use native.Mathlib.Omega.{arith}
 use Rattle.eon_token.specs.Machine.{dq, sq}
+use Rattle.std.proofs.Common.{◌≡◌, get_or}
+use Rattle.eon_token.proofs.Tests.{class_small}
 use Rattle.eon_token.proofs.Steps.{ident, number_digit, number_sign, punct, nothing_starts, found, ran}
 use Rattle.eon_token.proofs.token_kind.lexeme.Goals as goal
 
@@ -18,10 +20,10 @@ returns-then-k-eq4 c = let a = c.args in
     ran a.text.now a.start c.word-then-k-eq4.result _ c.word-then-k-eq4.ensures (number_sign a.text.now a.start (omega arith) (omega arith))
 
 pub quoted-requires : goal.quoted-requires
-quoted-requires c = (omega arith, dq, refl, omega arith)
+quoted-requires c = (omega arith, dq, refl, refl, omega arith)
 
 pub quoted-requires-then-k-eq18 : goal.quoted-requires-then-k-eq18
-quoted-requires-then-k-eq18 c = (omega arith, sq, refl, omega arith)
+quoted-requires-then-k-eq18 c = (omega arith, sq, refl, refl, omega arith)
 
 pub returns-then-k-lt10 : goal.returns-then-k-lt10
 returns-then-k-lt10 c = let class = c.class-k in
@@ -33,4 +35,7 @@ pub returns : goal.returns
 returns c = let class = c.class-k in
     let a = c.args in
     let k = class.result in
-    found a.text.now a.start (k - 8) (k - 8) (a.start + 1) refl (punct a.text.now a.start (omega arith) k (omega arith) (omega arith) (omega arith))
+    found a.text.now a.start c.one_byte.result (k - 8) (a.start + 1) c.one_byte.ensures (punct a.text.now a.start (omega arith) k (omega arith) (omega arith) (omega arith))
+
+pub one_byte-requires : goal.one_byte-requires
+one_byte-requires c = (omega arith, omega (arith, class_small (get_or c.args.text.now c.args.start 0)))

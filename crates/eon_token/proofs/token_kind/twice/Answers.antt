@@ -8,25 +8,19 @@ use Rattle.eon_token.proofs.token_kind.twice.Goals as goal
 pub returns-then-text-end : goal.returns-then-text-end
 returns-then-text-end c = let s = c in
     let a = s.args in
-    found a.text.now a.start a.k (plain_k a.q) (a.start + 1 + 1) s.requires.2 (q_two_end s.requires.1 a.text.now a.start (omega arith) s.requires.3 (omega arith) s.requires.4 (omega arith))
+    found a.text.now a.start a.k (plain_k a.q) (a.start + 1 + 1) s.requires.2 (q_two_end s.requires.1 a.text.now a.start (omega arith) s.requires.4 (omega arith) s.requires.5 (omega arith))
 
 pub returns-then-class-q : goal.returns-then-class-q
 returns-then-class-q c = let s = c in
     let a = s.args in
-    found a.text.now a.start a.k (plain_k a.q) (a.start + 1 + 1) s.requires.2 (q_two_on s.requires.1 a.text.now a.start (omega arith) s.requires.3 (omega arith) s.requires.4 (omega arith) (λ p. c.if-class-q.true (c.class.ensures ∙ p)))
+    found a.text.now a.start a.k (plain_k a.q) (a.start + 1 + 1) s.requires.2 (q_two_on s.requires.1 a.text.now a.start (omega arith) s.requires.4 (omega arith) s.requires.5 (omega arith) (λ p. c.if-class-q.true (c.class.ensures ∙ p)))
 
 pub returns-then-close-eq0 : goal.returns-then-close-eq0
 returns-then-close-eq0 c = let s = c in
     let a = s.args in
-    found a.text.now a.start a.k (plain_k a.q) (a.start + 1 + 1) s.requires.2 (q_three s.requires.1 a.text.now a.start (omega arith) s.requires.3 (omega arith) s.requires.4 (omega arith) (sym c.class.ensures ∙ c.if-class-q.false) _ (closed_zero (multi_k a.q) _ _ c.close_triple-close.ensures c.if-close-eq0.true))
-
-pub overflow_add-kind : goal.overflow_add-kind
-overflow_add-kind c = let pre = c.requires in
-    let p = plain_small pre.1 in
-    let e = pre.2 in
-    omega arith
+    found a.text.now a.start a.k (plain_k a.q) (a.start + 1 + 1) s.requires.2 (q_three s.requires.1 a.text.now a.start (omega arith) s.requires.4 (omega arith) s.requires.5 (omega arith) (sym c.class.ensures ∙ c.if-class-q.false) _ (closed_zero (multi_k a.q) _ _ c.close_triple-close.ensures c.if-close-eq0.true))
 
 pub returns : goal.returns
 returns c = let s = c in
     let a = s.args in
-    found a.text.now a.start (a.k + 2) (multi_k a.q) c.close_triple-close.result (ap (λ (n : ℕ). n + 2) s.requires.2 ∙ plain_two s.requires.1) (q_three s.requires.1 a.text.now a.start (omega arith) s.requires.3 (omega arith) s.requires.4 (omega arith) (sym c.class.ensures ∙ c.if-class-q.false) _ (closed_some (multi_k a.q) _ _ c.close_triple-close.ensures c.if-close-eq0.false))
+    found a.text.now a.start a.m (multi_k a.q) c.close_triple-close.result s.requires.3 (q_three s.requires.1 a.text.now a.start (omega arith) s.requires.4 (omega arith) s.requires.5 (omega arith) (sym c.class.ensures ∙ c.if-class-q.false) _ (closed_some (multi_k a.q) _ _ c.close_triple-close.ensures c.if-close-eq0.false))

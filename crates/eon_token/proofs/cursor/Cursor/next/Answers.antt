@@ -4,6 +4,7 @@ use Rattle.eon_spec.specs.Utf8.{Boundary}
 use Rattle.eon_token.specs.Placed.{placed_at}
 use Rattle.eon_token.specs.Place.{place_of, stands_for}
 use Rattle.eon_token.specs.declared.token_kind.PlacedToken.{PlacedToken}
+use Rattle.eon_token.proofs.KindCodes.{code_small}
 use Rattle.eon_token.proofs.Places.{peeks, peeks_kind, peeks_gets, skips}
 use Rattle.eon_token.proofs.cursor.Cursor.next.Goals as goal
 
@@ -21,5 +22,5 @@ returns c = let a = c in
       place = ap (λ (t : PlacedToken). record { start = x.start; end = x.end; peeked = t }) c.next_token-u.ensures
           ∙ ap (λ (t : PlacedToken). record { start = t.start; end = t.end; peeked = placed_at s t.end }) e;
       stands = ap (λ (t : PlacedToken). stands_for s (record { start = t.start; end = t.end; peeked = c.next_token-u.result })) e
-          ∙ skips s (place_of a.args.self) a.requires.0.bound (omega (arith, a.requires.1, peeks_kind s a.args.self a.requires.0));
+          ∙ skips s (place_of a.args.self) a.requires.0.bound (omega (arith, code_small a.args.self.peeked.kind a.requires.1, peeks_kind s a.args.self a.requires.0));
     }
