@@ -9,9 +9,9 @@ use Rattle.eon_spec.specs.Unquote.{Unescaped, value, fault, push, unescape, plai
 use Rattle.eon_spec.specs.Unquote as unquoting
 use Rattle.eon_spec.specs.declared.refusal.Reason.{Reason}
 use Rattle.eon_spec.specs.declared.refusal.Reason.TheVariants as reasons
-use Rattle.eon_escape.specs.Views.{reads_by}
-use Rattle.eon_escape.specs.declared.mode.Mode.{Mode}
-use Rattle.eon_escape.specs.declared.mode.Mode.TheVariants as modes
+use Rattle.eon_unescape.specs.Modes.{reads_by}
+use Rattle.eon_unescape.specs.declared.mode.Mode.{Mode}
+use Rattle.eon_unescape.specs.declared.mode.Mode.TheVariants as modes
 
 abbrev pub Late : Unescaped → Type 0
 Late (value s) = Unit {0}

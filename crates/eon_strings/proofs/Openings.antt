@@ -14,8 +14,8 @@ use Rattle.eon_strings.specs.declared.marks.Contents.{Contents}
 use Rattle.eon_utf8.specs.Post.{StartsWith}
 use Rattle.eon_utf8.proofs.Formed.{ascii_char}
 use Rattle.eon_unescape.proofs.Kept.{kept_more}
-use Rattle.eon_escape.specs.declared.mode.Mode.{Mode}
-use Rattle.eon_escape.specs.declared.mode.Mode.TheVariants.{Plain}
+use Rattle.eon_unescape.specs.declared.mode.Mode.{Mode}
+use Rattle.eon_unescape.specs.declared.mode.Mode.TheVariants.{Plain}
 use Rattle.eon_strings.specs.Views.{quotes, given, ModeIs}
 use Rattle.eon_strings.proofs.Ends.{all_behind, all_before}
 

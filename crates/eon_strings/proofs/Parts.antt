@@ -8,9 +8,9 @@ use Rattle.eon_spec.specs.Calls.{after, done, part_of, is_part, opening}
 use Rattle.eon_spec.specs.declared.Which.TheVariants.{Quoted}
 use Rattle.eon_laws.proofs.Facts.{and_left, and_right}
 use Rattle.eon_laws.proofs.Shown.{without_none}
-use Rattle.eon_escape.specs.Views.{reads_by}
-use Rattle.eon_escape.specs.declared.mode.Mode.{Mode}
-use Rattle.eon_escape.specs.declared.mode.Mode.TheVariants.{Literal, Plain, Backslash, Blanks, Unicode, Digits}
+use Rattle.eon_unescape.specs.Modes.{reads_by}
+use Rattle.eon_unescape.specs.declared.mode.Mode.{Mode}
+use Rattle.eon_unescape.specs.declared.mode.Mode.TheVariants.{Literal, Plain, Backslash, Blanks, Unicode, Digits}
 use Rattle.eon_unescape.specs.Views.{kept, Formed, BytesOf}
 use Rattle.eon_unescape.proofs.Runs.{elem_decode, plain_text, encoded}
 use Rattle.eon_strings.specs.Views.{ModeIs, placed_call}

@@ -22,8 +22,8 @@ use Rattle.eon_spec.specs.Calls.{Outcome, done, refused_with, after, part_of, pl
 use Rattle.eon_spec.specs.declared.Which.TheVariants.{Quoted, Scratch}
 use Rattle.eon_laws.proofs.Checked.{checked_long, checked_bad, checked_good, good_text}
 use Rattle.eon_unescape.specs.Views.{kept, Reads}
-use Rattle.eon_escape.specs.Views.{reads_by}
-use Rattle.eon_escape.specs.declared.mode.Mode.{Mode}
+use Rattle.eon_unescape.specs.Modes.{reads_by}
+use Rattle.eon_unescape.specs.declared.mode.Mode.{Mode}
 use Rattle.eon_strings.proofs.Late.{Late, late_by, late_quoted, late_refusal}
 use Rattle.eon_strings.specs.Views.{outcome_at_start, handed, placed_call, scratch_call}
 

@@ -9,10 +9,10 @@ use Rattle.eon_spec.specs.declared.refusal.Reason.{Reason}
 use Rattle.eon_spec.specs.declared.Which.TheVariants.{Scratch}
 use Rattle.eon_spec.specs.declared.Part.{Part}
 use Rattle.eon_spec.specs.Calls.{part_of, Outcome, done, refused_with, After, then, fill, handed_back, unescaped_outcome}
-use Rattle.eon_escape.specs.Views.{reads_by}
+use Rattle.eon_unescape.specs.Modes.{reads_by}
 use Rattle.eon_unescape.specs.Views.{kept, Formed, BytesOf}
-use Rattle.eon_escape.specs.declared.mode.Mode.{Mode}
-use Rattle.eon_escape.specs.declared.mode.Mode.TheVariants.{Literal, Plain, Backslash, Blanks, Unicode, Digits}
+use Rattle.eon_unescape.specs.declared.mode.Mode.{Mode}
+use Rattle.eon_unescape.specs.declared.mode.Mode.TheVariants.{Literal, Plain, Backslash, Blanks, Unicode, Digits}
 use Rattle.eon_strings.specs.declared.marks.Contents.{Contents}
 
 -- the first n characters are quotes

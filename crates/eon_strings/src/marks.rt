@@ -1,12 +1,12 @@
 // The quotes around a text, and what stands between them.
 ghost use Rattle.std.specs.Prelude.{◌≡◌, ◌≤◌, ◌<◌, length, IfOk};
 ghost use Rattle.eon_spec.specs.Unquote.{one_line_only, drop_line_feed, unquote_chars};
-ghost use Rattle.eon_escape.specs.Views.{reads_by};
+ghost use Rattle.eon_unescape.specs.Modes.{reads_by};
 ghost use Rattle.eon_unescape.specs.Views.{kept, Formed, BytesOf};
 ghost use Rattle.eon_strings.specs.Views.{BehindIs, BeforeIs, OneBeforeIs, given, ModeIs};
 
-use eon_escape::Mode;
 use eon_spec::Reason;
+use eon_unescape::Mode;
 
 // What stands between the quotes, and how it is read.
 #[derive(Clone, Copy)]

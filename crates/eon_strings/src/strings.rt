@@ -2,7 +2,7 @@
 ghost use Rattle.std.specs.Prelude.{◌≡◌, length, ◌≤◌, leb, ◌+◌};
 ghost use Rattle.eon_spec.specs.Unquote.{unquote_chars};
 ghost use Rattle.eon_spec.specs.Calls.{after, is_part, opening, outcome_of, unquote_call, show_call, shown_place, pick};
-ghost use Rattle.eon_escape.specs.Views.{reads_by};
+ghost use Rattle.eon_unescape.specs.Modes.{reads_by};
 ghost use Rattle.eon_unescape.specs.Views.{kept, Formed};
 ghost use Rattle.eon_strings.specs.Views.{outcome_at_start, placed_call, scratch_call};
 

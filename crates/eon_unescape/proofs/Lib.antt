@@ -1,3 +1,4 @@
+pub mod Hex
 pub mod Kept
 pub mod Lists
 pub mod Places

@@ -23,10 +23,10 @@ use Rattle.eon_laws.proofs.Facts.{nor_left, nor_right, elem_append}
 use Rattle.eon_laws.proofs.Utf8.{chars_append}
 use Rattle.eon_laws.proofs.Encode.{encode_decode}
 use Rattle.eon_laws.proofs.Shown.{without_none}
-use Rattle.eon_escape.specs.Views.{reads_by}
+use Rattle.eon_unescape.specs.Modes.{reads_by}
 use Rattle.eon_unescape.specs.Views.{kept, Formed, Reads, is_bare, RunIs}
-use Rattle.eon_escape.specs.declared.mode.Mode.{Mode}
-use Rattle.eon_escape.specs.declared.mode.Mode.TheVariants.{Literal, Plain}
+use Rattle.eon_unescape.specs.declared.mode.Mode.{Mode}
+use Rattle.eon_unescape.specs.declared.mode.Mode.TheVariants.{Literal, Plain}
 use Rattle.eon_unescape.specs.declared.Next.{Next}
 use Rattle.eon_utf8.proofs.Formed.{rest}
 use Rattle.eon_unescape.proofs.Writes.{sets_append, reads_push, same_as}

@@ -7,8 +7,8 @@ use Rattle.eon_spec.specs.Refused.{number_of}
 use Rattle.eon_spec.specs.Unquote.{value, fault, without}
 use Rattle.eon_spec.specs.Unquote as unquoting
 use Rattle.eon_spec.specs.declared.refusal.Reason.{Reason}
-use Rattle.eon_escape.specs.Views.{reads_by}
-use Rattle.eon_escape.specs.declared.mode.Mode.{Mode}
+use Rattle.eon_unescape.specs.Modes.{reads_by}
+use Rattle.eon_unescape.specs.declared.mode.Mode.{Mode}
 use Rattle.eon_unescape.specs.declared.Next.{Next}
 
 -- the characters of a text, without carriage returns

@@ -5,11 +5,16 @@ ghost use Rattle.std.specs.Prelude.{◌≡◌, ◌+◌, ◌*◌, ◌^◌, ◌≤
 ghost use Rattle.std.specs.List.{take_while};
 ghost use Rattle.std.proofs.lemmas.List.Edits.{sets};
 ghost use Rattle.eon_spec.specs.Utf8.{encode_char};
-ghost use Rattle.eon_escape.specs.Views.{reads_by};
+ghost use Rattle.eon_unescape.specs.Modes.{reads_by};
 ghost use Rattle.eon_unescape.specs.Views.{kept, Formed, NextIs, Reads, is_bare, RunIs};
 
-use eon_escape::{Mode, Step};
+mod chars;
+mod digits;
+mod mode;
+
+use crate::mode::Step;
 use eon_spec::Reason;
+pub use mode::Mode;
 
 // A character, and the text behind it.
 #[derive(Clone, Copy)]
@@ -42,6 +47,7 @@ pub fn unescape(text: &[u8], mode: Mode, out: &mut [u8]) -> Result<usize, Reason
     let mut rest = text;
     let mut mode = mode;
     let mut len = 0;
+    // A `loop`, since its turns take runs of different length: no iterator hands them out.
     loop {
         let run = run_len(rest, mode);
         len = put(out, len, &rest[..run]);

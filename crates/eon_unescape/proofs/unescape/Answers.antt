@@ -1,5 +1,5 @@
 use Rattle.std.proofs.Common.{ℕ, ◌∙◌, ap, Ok, length-take, length-drop, arith}
-use Rattle.eon_escape.specs.Views.{onward}
+use Rattle.eon_unescape.specs.Modes.{onward}
 use Rattle.eon_unescape.proofs.Runs.{turn_end, turn_put, turn_formed}
 use Rattle.eon_unescape.proofs.unescape.Goals as goal
 

@@ -1,6 +1,6 @@
 use Rattle.std.proofs.Common.{ℕ, ◌+◌, ◌*◌, ◌≤◌, length, List, Result}
 use Rattle.eon_spec.specs.declared.refusal.Reason.{Reason}
-use Rattle.eon_escape.specs.Views.{reads_by}
+use Rattle.eon_unescape.specs.Modes.{reads_by}
 use Rattle.eon_unescape.specs.Views.{kept, Formed, Reads}
 use Rattle.eon_unescape.proofs.unescape.Given as goal
 

@@ -1,6 +1,6 @@
 // Where unescaping stands, and what the next character does there.
 ghost use Rattle.std.specs.Prelude.{◌≡◌, List, [], ◌∷◌, ℕ};
-ghost use Rattle.eon_escape.specs.Views.{reads_by, onward, ended};
+ghost use Rattle.eon_unescape.specs.Modes.{reads_by, onward, ended};
 
 use crate::chars::{escape, hex_digit, is_whitespace};
 use crate::digits::Digits;
@@ -20,13 +20,13 @@ pub enum Mode {
 
 // What a character that is not refused does: it is taken in, or gives a character.
 #[derive(Clone, Copy)]
-pub enum Step {
+pub(crate) enum Step {
     Go(Mode),
     Put(char, Mode),
 }
 
 impl Mode {
-    pub fn read_char(self, c: char) -> Result<Step, Reason>
+    pub(crate) fn read_char(self, c: char) -> Result<Step, Reason>
         ensures { (s : List ℕ) → reads_by self (c ∷ s) ≡ onward result s }
     {
         match self {
@@ -41,7 +41,7 @@ impl Mode {
 
     // The text ends.
     #[tactic(auto, unfolding(eon_spec::specs::Unquote::unescape))]
-    pub fn at_end(self) -> Result<(), Reason>
+    pub(crate) fn at_end(self) -> Result<(), Reason>
         ensures { reads_by self [] ≡ ended result }
     {
         match self {

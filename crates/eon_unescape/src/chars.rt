@@ -4,7 +4,7 @@ ghost use Rattle.eon_spec.specs.Base.{elem};
 ghost use Rattle.eon_spec.specs.Unquote.{lookup, escapes, hex_digit, white_space};
 
 // What a one-character escape gives.
-pub fn escape(c: char) -> Option<char>
+pub(crate) fn escape(c: char) -> Option<char>
     ensures { result ≡ lookup c escapes }
 {
     match c {
@@ -22,14 +22,14 @@ pub fn escape(c: char) -> Option<char>
 }
 
 // The value of a hexadecimal digit.
-pub fn hex_digit(c: char) -> Option<u32>
+pub(crate) fn hex_digit(c: char) -> Option<u32>
     ensures value { result ≡ hex_digit c }
     ensures below { IfSome result (λ d. d < 16) }
 {
     c.to_digit(16)
 }
 
-pub fn is_whitespace(c: char) -> bool
+pub(crate) fn is_whitespace(c: char) -> bool
     ensures { result ≡ elem c white_space }
 {
     c.is_whitespace()

@@ -1,6 +1,6 @@
 use Rattle.std.proofs.Common.{arith}
-use Rattle.eon_escape.proofs.Hex.{grows, room}
-use Rattle.eon_escape.proofs.digits.Digits.with.Goals as goal
+use Rattle.eon_unescape.proofs.Hex.{grows, room}
+use Rattle.eon_unescape.proofs.digits.Digits.with.Goals as goal
 
 pub overflow_mul-result : goal.overflow_mul-result
 overflow_mul-result c = let h = room c.args.self.count c.args.self.value (omega arith) c.args.self.fits in omega arith

@@ -1,17 +1,17 @@
 // The digits of `\u{..`.
 ghost use Rattle.std.specs.Prelude.{◌≡◌, ◌+◌, ◌*◌, ◌^◌, ◌<◌, ◌≤◌, ◌↔◌, IfSome, IsNone};
 
-// How many digits there are so far, and their number.
+// How many digits there are so far, and their number. Public only since a variant of `Mode` holds it.
 #[derive(Clone, Copy)]
 pub struct Digits {
-    pub count: u32,
-    pub value: u32,
+    pub(crate) count: u32,
+    pub(crate) value: u32,
     ghost few: { count ≤ 8 },
     ghost fits: { value < 2 ^ (4 * count) },
 }
 
 impl Digits {
-    pub fn new() -> Self
+    pub(crate) fn new() -> Self
         ensures none { result.count ≡ 0 }
         ensures zero { result.value ≡ 0 }
     {
@@ -19,7 +19,7 @@ impl Digits {
     }
 
     // With a digit more, unless there are eight.
-    pub fn with(self, digit: u32) -> Option<Self>
+    pub(crate) fn with(self, digit: u32) -> Option<Self>
         requires { digit < 16 }
         ensures ninth { IsNone result ↔ (8 ≤ self.count) }
         ensures count { IfSome result (λ d. d.count ≡ self.count + 1) }

@@ -4,11 +4,11 @@ use Rattle.eon_spec.specs.Refused.{number_of}
 use Rattle.eon_spec.specs.Unquote.{value, fault, push, unescape, plain, backslash, blanks, unicode, digits}
 use Rattle.eon_spec.specs.Unquote as unquoting
 use Rattle.eon_spec.specs.declared.refusal.Reason.{Reason}
-use Rattle.eon_escape.specs.declared.digits.Digits.{Digits}
-use Rattle.eon_escape.specs.declared.mode.Mode.{Mode}
-use Rattle.eon_escape.specs.declared.mode.Mode.TheVariants as modes
-use Rattle.eon_escape.specs.declared.mode.Step.{Step}
-use Rattle.eon_escape.specs.declared.mode.Step.TheVariants.{Go, Put}
+use Rattle.eon_unescape.specs.declared.digits.Digits.{Digits}
+use Rattle.eon_unescape.specs.declared.mode.Mode.{Mode}
+use Rattle.eon_unescape.specs.declared.mode.Mode.TheVariants as modes
+use Rattle.eon_unescape.specs.declared.mode.Step.{Step}
+use Rattle.eon_unescape.specs.declared.mode.Step.TheVariants.{Go, Put}
 
 -- the characters that a mode gives
 abbrev pub reads_digits : Digits → List ℕ → unquoting.Unescaped
