@@ -14,7 +14,11 @@ use std::io::{BufRead, BufReader, BufWriter, Write};
 const BUFFER_BYTES: usize = 65536;
 
 // A line is answered by its words, parted by one blank each.
-fn answer<'a>(alloc: Global, line: &[u8], desk: &'a mut Desk) -> io::Result<Result<Reply<'a>, Fault>> {
+fn answer<'a>(
+    alloc: Global,
+    line: &[u8],
+    desk: &'a mut Desk,
+) -> io::Result<Result<Reply<'a>, Fault>> {
     if line.len() > LINE_BYTES {
         return Ok(Err(Fault::BadLine));
     }
