@@ -21,6 +21,11 @@ pub enum Fault {
 }
 
 impl From<Refusal> for Fault {
+    ghost use Rattle.std.specs.Prelude.{◌≡◌};
+    ghost use Rattle.answer_line.specs.declared.reply.Fault.TheVariants.{Refused};
+
+    ghost from_gives = { λ refusal fault. fault ≡ Refused refusal };
+
     fn from(refusal: Refusal) -> Fault {
         Fault::Refused(refusal)
     }
