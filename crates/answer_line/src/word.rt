@@ -1,9 +1,10 @@
 // What the words of a line stand for.
-ghost use Rattle.std.specs.Prelude.{◌≡◌, ◌*◌, ◌%◌, ◌<◌, ◌≤◌, [], length, not, codes, ◌⊎◌, Ok, IsOk, IfOk, OnOk};
+ghost use Rattle.std.specs.Prelude.{◌≡◌, ◌*◌, ◌%◌, ◌<◌, ◌≤◌, [], length, codes, ◌⊎◌, Ok, IsOk, IfOk, OnOk};
 ghost use Rattle.std.specs.List.{AllPass};
-ghost use Rattle.std.specs.Char.{is_ascii_digit, is_ascii_uppercase};
+ghost use Rattle.std.specs.Char.{is_ascii_digit};
 ghost use Rattle.std.specs.Str.Parse.{digits_value};
 ghost use Rattle.hex.specs.Hex.{decode_of};
+ghost use Rattle.answer_line.specs.Word.{IsLowerCase};
 
 use crate::reply::Fault;
 use hex::decode_to_slice;
@@ -12,8 +13,8 @@ use hex::decode_to_slice;
 pub fn bytes<'a>(word: &[u8], room: &'a mut [u8]) -> Result<&'a [u8], Fault>
     ensures dash { word.now ≡ codes "-" → IsOk result × IfOk result (λ bytes. bytes.now ≡ []) }
     ensures pairs { IfOk result (λ bytes. (word.now ≡ codes "-") ⊎ (decode_of word.now ≡ Ok bytes.now)) }
-    ensures lower { OnOk result (AllPass (λ b. not (is_ascii_uppercase b)) word.now) }
-    ensures found { IsOk (decode_of word.now) → AllPass (λ b. not (is_ascii_uppercase b)) word.now → 0 < length word.now → length word.now ≤ 2 * length room.old → IsOk result }
+    ensures lower { OnOk result (IsLowerCase word.now) }
+    ensures found { IsOk (decode_of word.now) → IsLowerCase word.now → 0 < length word.now → length word.now ≤ 2 * length room.old → IsOk result }
 {
     if word == b"-".as_slice() {
         return Ok(&[]);
