@@ -50,6 +50,14 @@ impl<'a> Sheet<'a> {
         self.word(i, KIND) == usize::from(kind)
     }
 
+    // The word of its kind.
+    pub fn kind(self, i: usize) -> usize
+        ensures value { result ≡ word self.entry.table.now i 0 }
+        ensures sized { result < 2 ^ 32 }
+    {
+        self.word(i, KIND)
+    }
+
     pub fn start(self, i: usize) -> usize
         ensures value { result ≡ word self.entry.table.now i 1 }
         ensures sized { result < 2 ^ 32 }

@@ -1,4 +1,5 @@
 pub mod Kept
-pub mod Writes
+pub mod Lists
 pub mod Places
 pub mod Runs
+pub mod Writes
