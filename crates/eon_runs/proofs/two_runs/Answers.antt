@@ -1,6 +1,6 @@
 -- The evening run is made on the text that the afternoon run wrote.
 use Rattle.std.proofs.Common.{ap, ◌∙◌}
-use Rattle.eon_spec.specs.Runs.{wrote, IsRow}
+use Rattle.eon_spec.specs.Runs.{wrote}
 use Rattle.eon_round_trip.proofs.Runs as round
 use Rattle.eon_runs.proofs.two_runs.Goals as goal
 

@@ -1,5 +1,5 @@
 -- Each turn reads on or is one interrupt fewer, and what stands in the text is what the reader has given.
-use Rattle.std.proofs.Common.{length, ◌-◌, ◌≡◌, ◌+◌, ◌≤◌, take}
+use Rattle.std.proofs.Common.{length, ◌-◌, ◌+◌, ◌≤◌, take}
 use Rattle.std.specs.Io.KnownBytes.{Consumes}
 use Rattle.eonfmt.proofs.read_input.Given as goal
 
