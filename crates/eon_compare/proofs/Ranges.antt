@@ -1,5 +1,6 @@
 -- Comparison over ranges of records. Assumes nothing.
 use Rattle.std.proofs.Common.{◌≡◌, refl, sym, ap, ap₂, ◌∙◌, Bool, true, false, ◌&&◌, List, [], ◌∷◌, length, ℕ, zero, suc, ◌+◌, ◌-◌, ◌≤◌, ◌<◌, add-zero, zero-add, add-suc, suc-add, arith}
+use Rattle.std.proofs.Math.Bool.{and_assoc, and-true}
 use Rattle.eon_spec.specs.Records.{Record, tree_records}
 use Rattle.eon_spec.specs.Calls.{done, then, read_finished, same_records, compare_call}
 use Rattle.eon_table.specs.Words.{record_of, records_of}
@@ -7,10 +8,6 @@ use Rattle.eon_table.specs.Finished.{SomeFinished}
 use Rattle.eon_table.proofs.Finished.{answers}
 use Rattle.eon_table.proofs.Table.{records_all}
 use Rattle.eon_compare.specs.Ranges.{same_record}
-
-and_assoc : (a b c : Bool) → a && (b && c) ≡ a && b && c
-and_assoc true b c = refl
-and_assoc false b c = refl
 
 module _ (s ta t tb : List ℕ) where
   -- the comparison of n records from i on
@@ -31,7 +28,7 @@ module _ (s ta t tb : List ℕ) where
   same_split (suc k) m i =
       ap (λ (n : ℕ). Same i n) (suc-add k m)
       ∙ ap (λ (b : Bool). SameAt i && b) (same_split k m (suc i))
-      ∙ and_assoc (SameAt i) (Same (suc i) k) (Same (suc i + k) m)
+      ∙ sym (and_assoc (SameAt i) (Same (suc i) k) (Same (suc i + k) m))
       ∙ ap (λ (x : ℕ). SameAt i && Same (suc i) k && Same x m) (suc-add i k ∙ sym (add-suc i k))
 
   range_part : (end i j : ℕ) → i ≤ j → j ≤ end → SameTo end i ≡ SameTo j i && SameTo end j
@@ -44,11 +41,7 @@ module _ (s ta t tb : List ℕ) where
   unfolding records_of
   range_one end i h =
       let a : (i + 1) - i ≡ 1 = omega arith in
-      range_part end i (i + 1) (omega arith) (omega arith) ∙ ap (λ (n : ℕ). Same i n && SameTo end (i + 1)) a ∙ ap (λ (b : Bool). b && SameTo end (i + 1)) (and_true (SameAt i))
-    where
-      and_true : (b : Bool) → b && true ≡ b
-      and_true true = refl
-      and_true false = refl
+      range_part end i (i + 1) (omega arith) (omega arith) ∙ ap (λ (n : ℕ). Same i n && SameTo end (i + 1)) a ∙ ap (λ (b : Bool). b && SameTo end (i + 1)) (and-true (SameAt i))
 
   -- a turn: the range says `w`
   module _ (end i : ℕ) (w : Bool) (inv : SameTo end i ≡ w) (h : i < end) where

@@ -1,17 +1,8 @@
-use Rattle.std.specs.Prelude.{Option, None, Some}
 -- The form of a path list: items read off one after the other.
-use mathlib.Core.Path.{◌≡◌, refl, sym, ap, ap₂, ◌∙◌, subst}
-use mathlib.Core.Bool.{Bool, true, false, ◌&&◌, cond}
-use mathlib.Core.List.{List, [], ◌∷◌, ◌++◌, append_assoc}
-use Prim.Native.Nat.{ℕ, zero, suc, ◌+◌, ◌-◌, ◌≤◌, ◌<◌}
-use native.Mathlib.Omega.{arith}
-use native.Mathlib.Nat.{add-zero, zero-add}
-use native.Mathlib.Numerals.{add-one}
-use lib.ListN.{length, get_or, set, take, length-append, get_or-append}
-use lib.Seq.{get_or-set_same, get_or-set_other, get_or-append-add, take-suc, take-suc-set, take_all, length-take-le}
-use lib.Dec.{leb}
-use borrow.Author.Tests.{le-leb, lt-leb}
-use native.Mathlib.Decide.{dec_lt}
+use Rattle.std.proofs.Common.{append-nil, Option, None, Some, ◌≡◌, refl, sym, ap, ap₂, ◌∙◌, subst, Bool, true, false, ◌&&◌, cond, List, [], ◌∷◌, ◌++◌, append_assoc, ℕ, zero, suc, ◌+◌, ◌-◌, ◌≤◌, ◌<◌, arith, add-zero, zero-add, add-one, length, get_or, set, take, length-append, get_or-set_same, get_or-set_other, get_or-append-add, take-suc, take-suc-set, take_all, length-take-le, leb, le-leb}
+use Rattle.std.proofs.Math.ListN.{get_or-append}
+use Rattle.std.proofs.lemmas.Bool.{lt-leb}
+use Rattle.std.proofs.Math.Decide.{dec_lt}
 use Rattle.eon_spec.specs.Base.{within}
 use Rattle.eon_spec.specs.Tree.{Slice, TokenTree, TokenValue, TokenTrees, tree, identifier, number, quoted_string, list_of, map_of, variant_of, no_trees, ◌∷ᵗ◌}
 use Rattle.eon_spec.specs.Calls.{record_text}
@@ -25,10 +16,6 @@ use Rattle.eon_lookup.specs.declared.paths.Place.{Place}
 use Rattle.eon_lookup.specs.declared.paths.Keys.{Keys}
 use Rattle.eon_lookup.specs.Keys.{key_kind, below, no_place, no_keys, many, key_text, keys_from, whole, wholes, rest_at, rests, GoesOn, Going}
 use Rattle.eon_lookup.proofs.Lists.{in_below, all_below}
-
-append-nil : {A : Type 0} (l : List A) → l ++ [] ≡ l
-append-nil [] = refl
-append-nil (x ∷ l) = ap (λ m. x ∷ m) (append-nil l)
 
 -- ---- items of a list, one after the other
 

@@ -1,15 +1,7 @@
-use Rattle.std.specs.Prelude.{Option, None, Some}
 -- Lists of path numbers, and what answers gain.
-use mathlib.Core.Path.{◌≡◌, refl, sym, ap, ap₂, ◌∙◌, subst}
-use mathlib.Core.Bool.{Bool, true, false, ◌&&◌, ◌||◌, cond}
-use mathlib.Core.List.{List, [], ◌∷◌, ◌++◌}
-use Prim.Native.Nat.{ℕ, zero, suc, ◌≤◌, ◌<◌}
-use native.Mathlib.Omega.{arith}
-use native.Mathlib.Decide.{dec_lt}
-use lib.ListN.{length, get_or, set, take, length-append}
-use lib.Seq.{get_or-set_same, get_or-set_other, take-suc}
-use lib.Dec.{eqb, eqb-suc-zero}
-use borrow.Author.Tests.{eq-eqb, ne_eqb}
+use Rattle.std.proofs.Common.{Option, None, Some, ◌≡◌, refl, sym, ap, ap₂, ◌∙◌, subst, Bool, true, false, ◌&&◌, ◌||◌, cond, List, [], ◌∷◌, ◌++◌, ℕ, zero, suc, ◌≤◌, ◌<◌, arith, length, get_or, set, take, length-append, get_or-set_same, get_or-set_other, take-suc, eqb, eq-eqb, ne_eqb}
+use Rattle.std.proofs.Math.Dec.{eqb-suc-zero}
+use Rattle.std.proofs.Math.Decide.{dec_lt}
 use Rattle.eon_spec.specs.Base.{elem}
 use Rattle.eon_laws.proofs.Facts.{clash, eq_of, elem_append}
 use Rattle.eon_lookup.specs.Keys.{below}
@@ -74,6 +66,10 @@ all_below (suc n) p h = elem_append p (below n) (n ∷ []) ∙ go (dec_lt p n) (
 pub numbers_below : (l : List ℕ) (n : ℕ) → n ≤ length l → ((i : ℕ) → i < length l → get_or l i 0 ≡ i) → take n l ≡ below n
 numbers_below l zero h f = refl
 numbers_below l (suc n) h f = take-suc l n 0 (omega arith) ∙ ap₂ (λ (a : List ℕ) (x : ℕ). a ++ (x ∷ [])) (numbers_below l n (omega arith) f) (f n (omega arith))
+
+pub neither : (b : Bool) → ◌≡◌ {A = Option ℕ} (cond b None None) None
+neither true = refl
+neither false = refl
 
 -- ---- is a list empty?
 

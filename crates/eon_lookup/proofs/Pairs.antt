@@ -1,13 +1,5 @@
-use Rattle.std.specs.Prelude.{Option, None, Some}
 -- The walk through a map's pairs: what each pair gives the paths, and the steps it takes.
-use mathlib.Core.Path.{◌≡◌, refl, sym, ap, ap₂, ◌∙◌}
-use mathlib.Core.Bool.{Bool, true, false, ◌&&◌, ◌||◌, not, cond}
-use mathlib.Core.List.{List, [], ◌∷◌, ◌++◌}
-use Prim.Native.Nat.{ℕ, suc, ◌+◌, ◌-◌, ◌≤◌, ◌<◌}
-use native.Mathlib.Omega.{arith}
-use lib.ListN.{length, get_or}
-use lib.Dec.{ltb, eqb}
-use borrow.Author.Tests.{eq-eqb}
+use Rattle.std.proofs.Common.{Option, None, Some, ◌≡◌, refl, sym, ap, ap₂, ◌∙◌, Bool, true, false, ◌&&◌, ◌||◌, not, cond, List, [], ◌∷◌, ◌++◌, ℕ, suc, ◌+◌, ◌-◌, ◌≤◌, ◌<◌, arith, length, get_or, ltb, eqb, eq-eqb}
 use Rattle.eon_spec.specs.Base.{elem}
 use Rattle.eon_spec.specs.Tree.{Slice, TokenTree, TokenValue, KeyValues, tree, identifier, number, quoted_string, list_of, map_of, variant_of, no_pairs, pair}
 use Rattle.eon_spec.specs.Layout.{prefix_of}
@@ -21,7 +13,7 @@ use Rattle.eon_table.proofs.Here.{leaf_text}
 use Rattle.eon_lookup.specs.declared.paths.Keys.{Keys}
 use Rattle.eon_lookup.specs.Keys.{no_keys, many, key_kind, key_here, key_at, keys_from, rest_at, rests, GoesOn, Going}
 use Rattle.eon_lookup.specs.Live.{first_some, unless, Gains, among, keep, first_in, matches, ends_at, goes_on, Walked}
-use Rattle.eon_lookup.proofs.Lists.{or_yes, elem_keep, gains_nothing}
+use Rattle.eon_lookup.proofs.Lists.{neither, or_yes, elem_keep, gains_nothing}
 
 -- ---- the key of a tree, by its record
 
@@ -233,16 +225,12 @@ module _ (q : List ℕ) (paths : List Keys) where
             gains = gains_nothing (λ p. ap (λ (l : List ℕ). among l (λ p. inside_first w v (rest (d + 1) p)) p) e);
           }
 
-      no : (b : Bool) → ◌≡◌ {A = Option ℕ} (cond b None None) None
-      no true = refl
-      no false = refl
-
       pub inner_other : (w : ℕ) (v : TokenValue) (a : List ℕ) → length a ≡ 128 → (kind_of v ≡ 5 → ⊥) → Inner w v a a 0
       inner_other w v a z e =
           record {
             steps = sym (steps_other (onward key (all d live)) v e);
             size = z;
-            gains = gains_nothing (λ p. ap (λ (o : Option ℕ). cond (elem p (keep on live)) o None) (first_other w v (rest (d + 1) p) e) ∙ no (elem p (keep on live)));
+            gains = gains_nothing (λ p. ap (λ (o : Option ℕ). cond (elem p (keep on live)) o None) (first_other w v (rest (d + 1) p) e) ∙ neither (elem p (keep on live)));
           }
 
       pub inner_map : (w : ℕ) (kvs : KeyValues) (cl : List Slice) (old answers : List ℕ) (r : ℕ) → 0 < length (keep on live)

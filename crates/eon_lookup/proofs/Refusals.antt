@@ -1,11 +1,6 @@
-use Rattle.std.specs.Prelude.{Option, None, Some, Result, Ok, Err}
 -- Which numbers refuse a lookup: those of the event and its table, then those of the path text and its table, then 28. A refusal hands back
 -- 128 times 'none'.
-use mathlib.Core.Path.{◌≡◌, refl, sym, ap, ap₂, ◌∙◌}
-use mathlib.Core.Logic.{◌⊎◌, inl, inr}
-use mathlib.Core.List.{List, [], ◌∷◌}
-use Prim.Native.Nat.{ℕ, zero, suc}
-use lib.ListN.{replicate}
+use Rattle.std.proofs.Common.{Option, None, Some, Result, Ok, Err, ◌≡◌, refl, sym, ap, ap₂, ◌∙◌, ◌⊎◌, inl, inr, List, [], ◌∷◌, ℕ, zero, suc, replicate}
 use Rattle.eon_spec.specs.Refused.{Refusal, refusal_of}
 use Rattle.eon_spec.specs.declared.refusal.Refusal as refusal
 use Rattle.eon_spec.specs.declared.Found.{Found}

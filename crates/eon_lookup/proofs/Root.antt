@@ -1,11 +1,5 @@
-use Rattle.std.specs.Prelude.{Option, None}
 -- The walk of a whole tree.
-use mathlib.Core.Path.{◌≡◌, refl, sym, ap, ◌∙◌}
-use mathlib.Core.Bool.{Bool, true, false, cond}
-use mathlib.Core.List.{List, []}
-use Prim.Native.Nat.{ℕ, suc, ◌+◌, ◌<◌}
-use native.Mathlib.Omega.{arith}
-use lib.ListN.{length}
+use Rattle.std.proofs.Common.{Option, None, ◌≡◌, refl, sym, ap, ◌∙◌, Bool, true, false, cond, List, [], ℕ, suc, ◌+◌, ◌<◌, arith, length}
 use Rattle.eon_spec.specs.Base.{elem}
 use Rattle.eon_spec.specs.Tree.{Slice, TokenTree, TokenValue, KeyValues, map_of}
 use Rattle.eon_spec.specs.Layout.{prefix_of}
@@ -14,7 +8,7 @@ use Rattle.eon_table.specs.TreeAt.{kind_of, value_of}
 use Rattle.eon_lookup.specs.declared.paths.Keys.{Keys}
 use Rattle.eon_lookup.specs.Keys.{key_at, rest_at, rests, Going}
 use Rattle.eon_lookup.specs.Live.{first_some, among, first_in, Walked, Looks}
-use Rattle.eon_lookup.proofs.Lists.{gains_nothing, gains_as}
+use Rattle.eon_lookup.proofs.Lists.{neither, gains_nothing, gains_as}
 use Rattle.eon_lookup.proofs.Pairs.{steps_tree, steps_dead, steps_other, steps_map, inside_first, first_on, first_other, reached_tree, rest_step, some_rests}
 
 among_same : (live : List ℕ) (f g : ℕ → Option ℕ) → ((p : ℕ) → elem p live ≡ true → f p ≡ g p) → (p : ℕ) → among live f p ≡ among live g p
@@ -23,10 +17,6 @@ among_same live f g h p = go (elem p live) refl
     go : (b : Bool) → elem p live ≡ b → cond b (f p) None ≡ cond b (g p) None
     go true e = h p e
     go false e = refl
-
-no : (b : Bool) → ◌≡◌ {A = Option ℕ} (cond b None None) None
-no true = refl
-no false = refl
 
 module _ (q : List ℕ) (paths : List Keys) (live : List ℕ) (g : Going paths 0 live) (t : TokenTree) where
   abbrev rest : ℕ → Path
@@ -58,7 +48,7 @@ module _ (q : List ℕ) (paths : List Keys) (live : List ℕ) (g : Going paths 0
       record {
         steps = sym (steps_tree ps t ∙ ap suc (steps_other ps (value_of t) e));
         size = z;
-        gains = gains_nothing (λ p. among_same live (λ p. first_some (reached 0 t (rest p))) (λ p. None) (λ p h. sym (root_first (0 + length (prefix_of t)) refl p h) ∙ first_other (0 + length (prefix_of t)) (value_of t) (rest p) e) p ∙ no (elem p live));
+        gains = gains_nothing (λ p. among_same live (λ p. first_some (reached 0 t (rest p))) (λ p. None) (λ p h. sym (root_first (0 + length (prefix_of t)) refl p h) ∙ first_other (0 + length (prefix_of t)) (value_of t) (rest p) e) p ∙ neither (elem p live));
       }
 
   pub root_map : (w : ℕ) (kvs : KeyValues) (cl : List Slice) (old answers : List ℕ) (r : ℕ) → value_of t ≡ map_of kvs cl → w ≡ 0 + length (prefix_of t) → 0 < length live

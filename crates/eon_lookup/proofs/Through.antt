@@ -1,12 +1,5 @@
-use Rattle.std.specs.Prelude.{Option, None}
 -- On the way through a map's pairs: what is left, what was counted, and what the paths have.
-use mathlib.Core.Path.{◌≡◌, refl, sym, ap, ◌∙◌}
-use mathlib.Core.Bool.{Bool, true, false, cond}
-use mathlib.Core.List.{List}
-use Prim.Native.Nat.{ℕ, suc, ◌+◌, ◌≤◌, ◌<◌}
-use native.Mathlib.Omega.{arith}
-use lib.ListN.{length, get_or}
-use lib.Seq.{length-take-le}
+use Rattle.std.proofs.Common.{Option, None, ◌≡◌, refl, sym, ap, ◌∙◌, true, false, cond, List, ℕ, suc, ◌+◌, ◌≤◌, ◌<◌, arith, length, get_or, length-take-le}
 use Rattle.eon_spec.specs.Base.{elem}
 use Rattle.eon_spec.specs.Tree.{Slice, TokenTree, TokenValue, KeyValues, tree, no_pairs, pair}
 use Rattle.eon_spec.specs.Layout.{prefix_of}
@@ -20,7 +13,7 @@ use Rattle.eon_table.proofs.Here.{Entry, entry, no_entry}
 use Rattle.eon_lookup.specs.declared.paths.Keys.{Keys}
 use Rattle.eon_lookup.specs.Keys.{key_here, rest_at, rests, Going}
 use Rattle.eon_lookup.specs.Live.{answer_of, unless, Gains, among, keep, first_in, ends_at, goes_on, KeyMatched, Walked}
-use Rattle.eon_lookup.proofs.Lists.{unless_assoc, unless_none, gains_then}
+use Rattle.eon_lookup.proofs.Lists.{neither, unless_assoc, unless_none, gains_then}
 use Rattle.eon_lookup.proofs.Pairs.{key_here_lem, steps_tree, no_first, inside_first, Inner, pair_gives}
 
 pub tree_parts : (t : TokenTree) → length (prefix_of t) + value_size (value_of t) ≤ tree_size t
@@ -55,10 +48,6 @@ module _ (s tb : List ℕ) (end : ℕ) (q : List ℕ) (paths : List Keys) (d : �
   pub through_start : (kvs : KeyValues) (cl : List Slice) (base : ℕ) (old : List ℕ) → PairedAt s tb end base kvs cl → Through kvs cl base old old base 0
   through_start kvs cl base old h = record { left = kvs; inside = h; steps = omega arith; gains = λ p. refl }
 
-  no : (b : Bool) → ◌≡◌ {A = Option ℕ} (cond b None None) None
-  no true = refl
-  no false = refl
-
   pub through_end : (kvs : KeyValues) (cl : List Slice) (base : ℕ) (old answers : List ℕ) (j n : ℕ) → Through kvs cl base old answers j n → more_at tb end j ≡ false → length answers ≡ 128
       → Walked q paths d live base kvs old answers n
   through_end kvs cl base old answers j n t m z =
@@ -71,7 +60,7 @@ module _ (s tb : List ℕ) (end : ℕ) (q : List ℕ) (paths : List Keys) (d : �
         gains = record {
           has = λ p.
               sym (unless_none (answer_of (get_or answers p 0)))
-              ∙ ap (unless (answer_of (get_or answers p 0))) (sym (ap (λ (l : KeyValues). gives j l p) e ∙ ap (λ (o : Option ℕ). cond (elem p live) o None) (no_first j (rest_at q paths d p)) ∙ no (elem p live)))
+              ∙ ap (unless (answer_of (get_or answers p 0))) (sym (ap (λ (l : KeyValues). gives j l p) e ∙ ap (λ (o : Option ℕ). cond (elem p live) o None) (no_first j (rest_at q paths d p)) ∙ neither (elem p live)))
               ∙ t.gains p;
         };
       }

@@ -1,15 +1,5 @@
-use Rattle.std.specs.Prelude.{Option, None, Some}
 -- KeyMatched a key of the event: the turns over the paths.
-use mathlib.Core.Path.{◌≡◌, refl, sym, ap, ap₂, ◌∙◌, subst}
-use mathlib.Core.Bool.{Bool, true, false, ◌&&◌, not, cond}
-use mathlib.Core.List.{List, [], ◌∷◌, ◌++◌}
-use Prim.Native.Nat.{ℕ, ◌+◌, ◌≤◌, ◌<◌}
-use native.Mathlib.Omega.{arith}
-use native.Mathlib.Numerals.{add-one}
-use lib.ListN.{length, get_or, take, set, length-set}
-use lib.Seq.{take-suc, take_all, take-suc-set}
-use lib.Dec.{ltb, eqb}
-use borrow.Author.Tests.{lt-ltb, le-ltb}
+use Rattle.std.proofs.Common.{append-nil, Option, None, Some, ◌≡◌, refl, sym, ap, ap₂, ◌∙◌, subst, Bool, true, false, ◌&&◌, not, cond, List, [], ◌∷◌, ◌++◌, ℕ, ◌+◌, ◌≤◌, ◌<◌, arith, add-one, length, get_or, take, set, length-set, take-suc, take_all, take-suc-set, ltb, eqb, lt-ltb, le-ltb}
 use Rattle.eon_spec.specs.Base.{elem, eq_list}
 use Rattle.eon_spec.specs.Calls.{record_text}
 use Rattle.eon_spec.specs.Lookup.{Key, is_key}
@@ -17,7 +7,7 @@ use Rattle.eon_table.specs.Words.{word, record_of}
 use Rattle.eon_lookup.specs.declared.paths.Keys.{Keys}
 use Rattle.eon_lookup.specs.Keys.{many, key_kind, key_here, key_at, GoesOn, Going}
 use Rattle.eon_lookup.specs.Live.{answered, Gains, among, keep, matches, ends_at, goes_on, KeyMatched}
-use Rattle.eon_lookup.proofs.Lists.{elem_at, keep_append, gains_nothing, gains_then, gave, among_more}
+use Rattle.eon_lookup.proofs.Lists.{neither, elem_at, keep_append, gains_nothing, gains_then, gave, among_more}
 
 pub no_key : (s tb : List ℕ) (k : ℕ) → key_kind (word tb k 0) ≡ false → key_here s tb k ≡ None
 no_key s tb k e = ap (λ (b : Bool). cond b (Some (record_text s (record_of tb k))) None) e
@@ -71,12 +61,8 @@ module _ (q : List ℕ) (paths : List Keys) (d : ℕ) (key : Option Key) (live :
       all [] = refl
       all (p ∷ l) = ap (λ (b : Bool). cond (b && ltb (d + 1) (many paths p)) (p ∷ keep on l) (keep on l)) (off p) ∙ all l
 
-      no : (b : Bool) → ◌≡◌ {A = Option ℕ} (cond b None None) None
-      no true = refl
-      no false = refl
-
       nothing : (p : ℕ) → among live ends p ≡ None
-      nothing p = ap (λ (b : Bool). among live (λ x. cond (b && not (ltb (d + 1) (many paths p))) (Some w) None) p) (off p) ∙ no (elem p live)
+      nothing p = ap (λ (b : Bool). among live (λ x. cond (b && not (ltb (d + 1) (many paths p))) (Some w) None) p) (off p) ∙ neither (elem p live)
 
   module _ (answers next : List ℕ) (n i : ℕ) (t : Turns answers next n i) (h : i < length live) where
     abbrev p : ℕ
@@ -93,16 +79,8 @@ module _ (q : List ℕ) (paths : List Keys) (d : ℕ) (key : Option Key) (live :
     gained answers' g =
         gains_then t.gains g (λ x. among_more (take i live) p ends x ∙ ap (λ (ps : List ℕ). among ps ends x) (sym more))
 
-    nil : (l : List ℕ) → l ++ [] ≡ l
-    nil [] = refl
-    nil (x ∷ l) = ap (λ (m : List ℕ). x ∷ m) (nil l)
-
     stay : ends p ≡ None → Gains (λ x. cond (eqb x p) (ends p) None) answers answers
-    stay e = gains_nothing (λ x. ap (λ (o : Option ℕ). cond (eqb x p) o None) e ∙ no (eqb x p))
-      where
-        no : (b : Bool) → ◌≡◌ {A = Option ℕ} (cond b None None) None
-        no true = refl
-        no false = refl
+    stay e = gains_nothing (λ x. ap (λ (o : Option ℕ). cond (eqb x p) o None) e ∙ neither (eqb x p))
 
     -- another key
     pub turn_other : matches q paths d key p ≡ false → Turns answers next n (i + 1)
@@ -113,7 +91,7 @@ module _ (q : List ℕ) (paths : List Keys) (d : ℕ) (key : Option Key) (live :
           inside = omega arith;
           size = t.size;
           room = t.room;
-          list = t.list ∙ sym (lists false (ap (λ (b : Bool). b && ltb (d + 1) (many paths p)) e) ∙ nil (keep on (take i live)));
+          list = t.list ∙ sym (lists false (ap (λ (b : Bool). b && ltb (d + 1) (many paths p)) e) ∙ append-nil (keep on (take i live)));
           gains = gained answers (stay (ap (λ (b : Bool). cond (b && not (ltb (d + 1) (many paths p))) (Some w) None) e));
         }
 
@@ -145,7 +123,7 @@ module _ (q : List ℕ) (paths : List Keys) (d : ℕ) (key : Option Key) (live :
           inside = omega arith;
           size = ap length a ∙ same (eqb (get_or answers p 0) 4294967295) ∙ z;
           room = t.room;
-          list = t.list ∙ sym (lists false f ∙ nil (keep on (take i live)));
+          list = t.list ∙ sym (lists false f ∙ append-nil (keep on (take i live)));
           gains = gained answers' (subst (λ (x : List ℕ). Gains (λ x. cond (eqb x p) (ends p) None) answers x) (sym a) (subst (λ (x : Option ℕ). Gains (λ y. cond (eqb y p) x None) answers (answered answers p w)) (sym o) (gave answers p w (omega arith) v)));
         }
       where

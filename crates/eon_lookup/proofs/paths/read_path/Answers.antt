@@ -1,5 +1,4 @@
-use Rattle.std.specs.Prelude.{Some}
-use Rattle.std.proofs.Common.{◌≡◌, refl, sym, ap, ap₂, ◌∙◌, subst, ℕ, length, length-set, ◌+◌, ◌<◌, arith}
+use Rattle.std.proofs.Common.{Some, ◌≡◌, refl, sym, ap, ap₂, ◌∙◌, subst, length, length-set, ◌+◌, ◌<◌, arith}
 use Rattle.std.proofs.lemmas.Bool.{false≢true}
 use Rattle.eon_spec.specs.Base.{within}
 use Rattle.eon_spec.specs.Tree.{TokenValue}

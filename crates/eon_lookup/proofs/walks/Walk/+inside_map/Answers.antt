@@ -1,4 +1,4 @@
-use Rattle.std.proofs.Common.{◌≡◌, refl, sym, ap, ◌∙◌, subst, List, length, take, ℕ, suc, ◌+◌, ◌<◌, add-one, arith}
+use Rattle.std.proofs.Common.{refl, sym, ap, ◌∙◌, subst, List, length, ℕ, suc, ◌+◌, add-one, arith}
 use Rattle.std.proofs.lemmas.Bool.{false≢true}
 use Rattle.eon_spec.specs.Tree.{Slice, TokenValue, KeyValues, map_of}
 use Rattle.eon_table.specs.TreeAt.{ValueAt}
