@@ -3,6 +3,7 @@ ghost use Rattle.std.specs.Prelude.{◌≡◌, true};
 ghost use Rattle.eon_spec.specs.Utf8.{is_utf8};
 
 use eon_spec::{Reason, Refusal};
+use eon_token::token_kind::next_token;
 use std::fmt;
 use std::fmt::{Display, Formatter};
 
@@ -35,12 +36,11 @@ impl Display for Tokens<'_> {
     fn fmt<W: fmt::Write>(&self, f: &mut Formatter<W>) -> fmt::Result {
         let mut from = 0;
         loop {
-            let token = eon_token::token_kind::next_token(self.text, from);
-            if token.kind == 16 {
+            let token = next_token(self.text, from);
+            let Some(kind) = token.kind else {
                 return Ok(());
-            }
-            let kind = token.kind;
-            write!(f, " {kind} {} {}", token.start, token.end)?;
+            };
+            write!(f, " {} {} {}", u32::from(kind), token.start, token.end)?;
             from = token.end;
         }
     }
