@@ -1,4 +1,5 @@
-// Calls made in a row, one on what another wrote: the runs of demand 3, and what it says of them.
+// Calls made in a row, one on what another wrote: the runs of demand 3, and what it says of them. A table and its output stay two
+// parameters: a struct of both would need a clause more for each, that it still holds the memory that it was given.
 #![tactic(auto)]
 
 ghost use Rattle.std.specs.Prelude.{◌≡◌};

@@ -13,7 +13,8 @@ use std::io;
 use std::io::{ErrorKind, Read, Write};
 use std::process::ExitCode;
 
-// A byte more than a text has at most, so that a full buffer is refused by 1.
+// The memory is fixed and on the stack: docs/DECISIONS.md says how much. A byte more than a text has at most, so that a full buffer is
+// refused by 1.
 const TEXT_BYTES: usize = 65536;
 
 // 3,276 records of five words.
