@@ -15,6 +15,35 @@ pub struct Contents<'a> {
     pub mode: Mode,
 }
 
+// What opens and closes a text: so many quotes, each of them ASCII and no carriage return.
+#[derive(Clone, Copy)]
+struct Mark {
+    quote: u8,
+    count: usize,
+    ghost ascii: { quote < 128 },
+    ghost no_return: { 13 < quote },
+}
+
+const THREE_SINGLE: Mark = Mark {
+    quote: b'\'',
+    count: 3,
+};
+
+const SINGLE: Mark = Mark {
+    quote: b'\'',
+    count: 1,
+};
+
+const THREE_DOUBLE: Mark = Mark {
+    quote: b'"',
+    count: 3,
+};
+
+const DOUBLE: Mark = Mark {
+    quote: b'"',
+    count: 1,
+};
+
 // Openings are tried in the order `'''`, `'`, `"""`, `"`.
 pub fn in_quotes(text: &[u8]) -> Result<Contents<'_>, Reason>
     requires { Formed text.now }
@@ -24,40 +53,39 @@ pub fn in_quotes(text: &[u8]) -> Result<Contents<'_>, Reason>
     ensures bytes { IfOk result (λ c. BytesOf text.now c.text.now) }
     ensures mode { IfOk result (λ c. ModeIs text.now c.mode) }
 {
-    if let Some(rest) = behind(text, '\'', 3) {
-        let inner = before(rest, b'\'', 3)?;
+    if let Some(rest) = behind(text, THREE_SINGLE) {
+        let inner = before(rest, THREE_SINGLE)?;
         return Ok(Contents {
             text: without_line_feed(inner),
             mode: Mode::Literal,
         });
     }
-    if let Some(rest) = behind(text, '\'', 1) {
-        let inner = before(rest, b'\'', 1)?;
+    if let Some(rest) = behind(text, SINGLE) {
+        let inner = before(rest, SINGLE)?;
         return one_line(inner, Mode::Literal);
     }
-    if let Some(rest) = behind(text, '"', 3) {
-        let inner = before(rest, b'"', 3)?;
+    if let Some(rest) = behind(text, THREE_DOUBLE) {
+        let inner = before(rest, THREE_DOUBLE)?;
         return Ok(Contents {
             text: inner,
             mode: Mode::Plain,
         });
     }
-    if let Some(rest) = behind(text, '"', 1) {
-        let inner = before(rest, b'"', 1)?;
+    if let Some(rest) = behind(text, DOUBLE) {
+        let inner = before(rest, DOUBLE)?;
         return one_line(inner, Mode::Plain);
     }
     Err(Reason::NoOpeningQuote)
 }
 
-// The text behind n quotes.
-fn behind(text: &[u8], quote: char, n: usize) -> Option<&[u8]>
-    ensures { BehindIs text.now quote n result }
+// The text behind an opening mark.
+fn behind(text: &[u8], mark: Mark) -> Option<&[u8]>
+    ensures { BehindIs text.now mark.quote mark.count result }
 {
     let mut rest = text;
-    for _i in 0..n {
+    for _i in 0..mark.count {
         let next = eon_unescape::next_kept(rest)?;
-        let code = next.code;
-        if code != quote {
+        if next.code != char::from(mark.quote) {
             return None;
         }
         rest = next.rest;
@@ -65,16 +93,14 @@ fn behind(text: &[u8], quote: char, n: usize) -> Option<&[u8]>
     Some(rest)
 }
 
-// The text before n quotes at its end.
-fn before(text: &[u8], quote: u8, n: usize) -> Result<&[u8], Reason>
-    requires formed { Formed text.now }
-    requires ascii { quote < 128 }
-    requires no_return { 13 < quote }
-    ensures { BeforeIs text.now quote n result }
+// The text before a closing mark.
+fn before(text: &[u8], mark: Mark) -> Result<&[u8], Reason>
+    requires { Formed text.now }
+    ensures { BeforeIs text.now mark.quote mark.count result }
 {
     let mut rest = text;
-    for _i in 0..n {
-        let Some(front) = before_one(rest, quote) else {
+    for _i in 0..mark.count {
+        let Some(front) = before_one(rest, mark) else {
             return Err(Reason::NoClosingQuote);
         };
         rest = front;
@@ -82,16 +108,14 @@ fn before(text: &[u8], quote: u8, n: usize) -> Result<&[u8], Reason>
     Ok(rest)
 }
 
-// A quote is ASCII, so it is the last byte but for carriage returns.
-fn before_one(text: &[u8], quote: u8) -> Option<&[u8]>
-    requires formed { Formed text.now }
-    requires ascii { quote < 128 }
-    requires no_return { 13 < quote }
-    ensures { OneBeforeIs text.now quote result }
+// The text before one quote of the mark. A quote is ASCII, so it is the last byte but for carriage returns.
+fn before_one(text: &[u8], mark: Mark) -> Option<&[u8]>
+    requires { Formed text.now }
+    ensures { OneBeforeIs text.now mark.quote result }
 {
     let mut rest = text;
     while let [front @ .., last] = rest {
-        if *last == quote {
+        if *last == mark.quote {
             return Some(front);
         }
         if *last != b'\r' {

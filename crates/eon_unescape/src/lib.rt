@@ -1,4 +1,4 @@
-// The pass over the characters of a string, which writes its value.
+// The pass over the characters of a string, which writes its value. What one character does there stands in mode.rt.
 #![tactic(auto)]
 
 ghost use Rattle.std.specs.Prelude.{◌≡◌, ◌+◌, ◌*◌, ◌^◌, ◌≤◌, ◌<◌, length, take, drop};
