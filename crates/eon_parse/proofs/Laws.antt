@@ -14,10 +14,12 @@ use Rattle.eon_spec.specs.Records.{words}
 use Rattle.eon_laws.proofs.Records.{words_length}
 use Rattle.eon_token.specs.Place.{cursor_at}
 use Rattle.eon_parse.specs.Walk.{Out, refuse, got, Records, Item, header, text_end, reader, below, item_at}
-use Rattle.eon_parse.specs.Answer.{agrees, holds, stop_of, place, emit, bared, counted, entered, moved, compared_at, expected, tailed, past}
-use Rattle.eon_parse.specs.declared.Walk.{Walk}
-use Rattle.eon_parse.specs.declared.Stop.{Stop}
-use Rattle.eon_parse.specs.declared.Past.{Past}
+use Rattle.eon_spec.specs.RecordKind.{word_of}
+use Rattle.eon_spec.specs.declared.record_kind.RecordKind.{RecordKind}
+use Rattle.eon_parse.specs.Answer.{agrees, holds, stop_of, place, emit, bared, counted, entered, moved, begun, ended_at, expected, tailed, past}
+use Rattle.eon_parse.specs.declared.walk.Walk.{Walk}
+use Rattle.eon_parse.specs.declared.walk.Stop.{Stop}
+use Rattle.eon_parse.specs.declared.walk.Past.{Past}
 use Rattle.std.specs.Prelude.{Err, Ok}
 use Rattle.std.specs.Prelude.{Ok, Err}
 
@@ -112,10 +114,10 @@ module _ (s tb : List ℕ) (w : Walk) where
   emit_moved f p n = refl
 
   -- a record that starts here and ends at p, with f inside
-  pub finish : (l : Span) (f : Records) (q p : Span) (kind start name : ℕ)
-      → compared_at (moved s (emit s tb (entered s w l) f q) p) tb w.count kind start name ≡ emit s tb w (header kind start name p.end f ∷ f) p
+  pub finish : (l : Span) (f : Records) (q p : Span) (k : RecordKind) (start name : ℕ)
+      → ended_at (moved s (emit s tb (entered s w l) f q) p) tb (begun k w.count start name) ≡ emit s tb w (header (word_of k) start name p.end f ∷ f) p
   unfolding emit
-  finish l f q p kind start name = λ i. record { cursor = cursor_at s p; count = count_eq i; same = same_eq i }
+  finish l f q p k start name = λ i. record { cursor = cursor_at s p; count = count_eq i; same = same_eq i }
     where
       count_eq : w.count + 1 + length f ≡ w.count + suc (length f)
       count_eq = omega arith
@@ -125,6 +127,9 @@ module _ (s tb : List ℕ) (w : Walk) where
 
       at_words : 5 * (w.count + 1) ≡ 5 * w.count + 5
       at_words = omega arith
+
+      kind : ℕ
+      kind = word_of k
 
       head : List ℕ
       head = kind ∷ start ∷ text_end kind name p.end ∷ p.end ∷ suc (length f) ∷ []
@@ -208,7 +213,3 @@ below_less (suc d) s l = ap (λ (k : ℕ). reader k s l) pred_eq
   where
     pred_eq : suc d - 1 ≡ d
     pred_eq = omega arith
-
--- a walk that agrees no more is kept
-pub kept : (w : Walk) (b : Bool) → w.same ≡ false → w ≡ record { cursor = w.cursor; count = w.count; same = cond w.same b false }
-kept w b e = λ i. record { cursor = w.cursor; count = w.count; same = (e ∙ sym (ap (λ (z : Bool). cond z b false) e)) i }

@@ -28,7 +28,7 @@ use Rattle.eon_token.specs.Placed.{tokens_at, kind_of}
 use Rattle.eon_token.specs.Place.{Spot, span, cursor_behind, kind_at, next_span, line_feed}
 use Rattle.eon_parse.specs.Walk.{Out, refuse, got, bind, Records, closes, strings, reason_of, many, loop, comment, no_comment, run, end_of, expect, suffix_end, tail_r, Item, whole, settled, stops, one, two, inside, closed, header, list_at, map_at, variant_at, leaf_at, string_at, bare_at, item_at, reader, below, refused_at}
 use Rattle.eon_token.proofs.Places.{Gets, gets, Seen, over, comes, see}
-use Rattle.eon_token.proofs.Laws.{kind_small, kind_of_lem}
+use Rattle.eon_token.proofs.KindCodes.{kind_small, kind_of_lem}
 use Rattle.eon_parse.proofs.Left.{FarItem, suffix_far, expect_far, below_far}
 use Rattle.eon_parse.proofs.Pass.{string_variant, string_leaf}
 use Rattle.eon_parse.proofs.Steps.{is_comment, is_none}

@@ -21,7 +21,7 @@ use Rattle.eon_token.specs.Place.{Spot, span, kind_at, next_span}
 use Rattle.eon_spec.specs.declared.refusal.Reason.TheVariants.{Surplus}
 use Rattle.eon_parse.specs.Walk.{refused_at, Out, refuse, got, bind, Records, closes, loop, run, end_of, Item, settled, one, two, inside, header, below}
 use Rattle.eon_parse.specs.Top.{further, Shape, denied, asMap, asSingle, asSeveral, denies, gives, whole_of, shape_whole, ended, several_by, list_by, map_by, top_at}
-use Rattle.eon_token.proofs.Laws.{kind_small}
+use Rattle.eon_token.proofs.KindCodes.{kind_small}
 use Rattle.eon_token.proofs.Places.{Seen, over, comes, see, start_spot}
 use Rattle.eon_parse.proofs.Left.{below_far}
 use Rattle.eon_parse.proofs.Same.{C, Same, fine, fails, Ran, comments_same, Settled, settle_same, Shown, Listed, Mapped, stops_is, many_end, list_is, list_on, list_off, list_more, list_from, strict, fewer, fewer_comma, list_inside_lem, map_inside_lem, below_same, end_same}

@@ -47,6 +47,7 @@ impl Sink for Measure {
 }
 
 // A lent memory, and where the next byte goes, as long as all bytes fitted.
+#[derive(Drop)]
 pub struct Writer<'a> {
     pub out: &'a mut [u8],
     pub at: Option<usize>,

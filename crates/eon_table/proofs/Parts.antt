@@ -1,10 +1,10 @@
 -- Parts of a text, and the text of a record.
-use mathlib.Core.Path.{◌≡◌, refl, sym, ap, ◌∙◌}
-use mathlib.Core.Bool.{Bool, true, false, cond}
+use mathlib.Core.Path.{◌≡◌, sym, ap}
+use mathlib.Core.Bool.{Bool, false, cond}
 use mathlib.Core.List.{List, [], ◌∷◌}
-use Prim.Native.Nat.{ℕ, zero, suc, ◌-◌, ◌≤◌}
+use Prim.Native.Nat.{ℕ, ◌-◌, ◌≤◌}
 use native.Mathlib.Omega.{arith}
-use lib.ListN.{length, take, drop, length-drop, drop_of_length-le}
+use lib.ListN.{length, drop, length-drop}
 use lib.Seq.{length-take-le}
 use borrow.Author.Tests.{ne_eqb}
 use Rattle.eon_spec.specs.Base.{elem}
@@ -16,34 +16,12 @@ use Rattle.eon_table.specs.Words.{part}
 -- ---- a part of a text
 
 module _ (s : List ℕ) (from to : ℕ) where
-  pub part_empty : to ≤ from → [] ≡ part s from to
-  part_empty h = ap (λ (n : ℕ). take n (drop from s)) none_eq
-    where
-      none_eq : 0 ≡ to - from
-      none_eq = omega arith
-
-  pub part_past : length s ≤ from → [] ≡ part s from to
-  part_past h = go (to - from) ∙ sym (ap (take (to - from)) (drop_of_length-le s h))
-    where
-      go : (n : ℕ) → ◌≡◌ {A = List ℕ} [] (take n [])
-      go zero = refl
-      go (suc n) = refl
-
   pub part_length : to ≤ length s → length (part s from to) ≡ to - from
   part_length h = let l : length (drop from s) ≡ length s - from = length-drop from s in length-take-le (to - from) (drop from s) (omega arith)
 
 -- ---- the text of a record
 
 module _ (s : List ℕ) (r : Record) where
-  pub text_none : elem r.kind (LIST ∷ MAP ∷ []) ≡ true → [] ≡ record_text s r
-  text_none e = sym (ap (λ (b : Bool). cond b [] (part s r.start r.text_end)) e)
-
-  pub list_textless : r.kind ≡ LIST → [] ≡ record_text s r
-  list_textless e = text_none (ap (λ (x : ℕ). elem x (LIST ∷ MAP ∷ [])) e)
-
-  pub map_textless : r.kind ≡ MAP → [] ≡ record_text s r
-  map_textless e = text_none (ap (λ (x : ℕ). elem x (LIST ∷ MAP ∷ [])) e)
-
   pub text_some : (r.kind ≡ LIST → ⊥) → (r.kind ≡ MAP → ⊥) → part s r.start r.text_end ≡ record_text s r
   text_some g h = sym (ap (λ (b : Bool). cond b [] (part s r.start r.text_end)) has)
     where

@@ -18,7 +18,7 @@ use Rattle.eon_token.specs.Placed.{kind_of}
 use Rattle.eon_token.specs.Machine.{class, goes, states, accepts}
 use Rattle.eon_token.proofs.Tests.{below, below_at, and_left, and_right, class_small, goes_small}
 use Rattle.eon_token.proofs.Auto.{words, deriv_rules, state_of, steps}
-use Rattle.eon_token.proofs.Laws.{kind_of_lem}
+use Rattle.eon_token.proofs.KindCodes.{kind_of_lem}
 
 -- the rule stands in the list
 abbrev pub In : Rule → List Rule → Type 0
