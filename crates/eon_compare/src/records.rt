@@ -31,7 +31,8 @@ pub fn compare(
     Ok(n == m && same_range(a, b, 0, n))
 }
 
-// Are the records from number `from` up to `end` equal in both? One turn for each sibling; what is in a container, by a call.
+// Are the records from number `from` up to `end` equal in both? One turn for each sibling; what is in a container, by a call, which is the
+// form that docs/DECISIONS.md gives comparison. A turn goes on behind what is in the record, so it is no turn of a `for`.
 fn same_range(a: Sheet, b: Sheet, from: usize, end: usize) -> bool
     ensures { result
         ≡ same_records a.entry.text.now (records_of a.entry.table.now from (end - from)) b.entry.text.now (records_of b.entry.table.now from (end - from)) }

@@ -15,7 +15,7 @@ pub struct Place {
     pub end: usize,
 }
 
-// The keys of a path: the first `len` places.
+// The keys of a path: the first `len` places, since there is no heap.
 #[derive(Clone, Copy)]
 pub struct Keys {
     pub places: [Place; KEYS_MAX],
@@ -50,7 +50,8 @@ pub fn is_key(sheet: Sheet, i: usize) -> bool
     sheet.is(i, RecordKind::Identifier) || sheet.is(i, RecordKind::String)
 }
 
-// How many paths the sheet's tree lists, stored in their order, if it is a list of paths.
+// How many paths the sheet's tree lists, stored in their order, if it is a list of paths. As in `read_path`, how far a turn goes is said by the
+// table, so neither loop is a `for`.
 pub fn read_paths(list: Sheet, room: &mut [Keys; PATHS_MAX]) -> Option<usize>
     requires { (end : ℕ) × SomeTree list.text.now list.table.now end 0 }
     ensures { IsPaths list.entry.text.now list.entry.table.now room.new result }

@@ -37,7 +37,8 @@ impl<'a> Walk<'a> {
     }
 
     // The pairs of the map that is record i, with the paths of `live`, which have matched d keys and have one left. Each pair is gone over
-    // once; a map that no path goes on to is passed over by its size. How many keys and values were met.
+    // once; a map that no path goes on to is passed over by its size. How many keys and values were met. How far a turn goes is said by the
+    // table, so the loop is no `for`.
     fn inside_map(self, i: usize, live: &[usize], d: usize, answers: &mut [u32; PATHS_MAX]) -> usize
         requires left { d < keys_max }
         requires inside { i + word self.event.table.now i 4 < none_word }
@@ -67,7 +68,7 @@ impl<'a> Walk<'a> {
     }
 
     // Behind the key of record k, whose value is record w: of the paths of `live`, which have matched d keys, those that go on are listed in
-    // `next`, and those that end are answered. How many go on.
+    // `next`, and those that end are answered. How many go on: the list is lent, since there is no heap.
     fn match_key(
         self,
         k: usize,
@@ -103,7 +104,7 @@ impl<'a> Walk<'a> {
     }
 }
 
-// Path p is answered by record w, unless it has an answer.
+// Path p is answered by record w, unless it has an answer. NONE and no Option: C reads the words.
 fn give(answers: &mut [u32; PATHS_MAX], p: usize, w: usize)
     requires path { p < paths_max }
     requires value { w < none_word }

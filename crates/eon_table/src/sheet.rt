@@ -47,7 +47,7 @@ impl<'a> Sheet<'a> {
     pub fn is(self, i: usize, kind: RecordKind) -> bool
         ensures { IsTrue result ↔ (word self.entry.table.now i 0 ≡ word_of kind) }
     {
-        self.word(i, KIND) == usize::from(kind)
+        self.kind(i) == usize::from(kind)
     }
 
     // The word of its kind.
