@@ -1,13 +1,7 @@
-use Rattle.std.specs.Prelude.{Option, None, Some}
 -- What an answered lookup is: what the paths of a path list find in the event's tree. It has an entry for each of 128 paths, and its steps are
 -- no more than the event's records.
-use mathlib.Core.Path.{◌≡◌, refl, sym, ◌∙◌, ap}
-use mathlib.Core.Bool.{Bool, true, false, cond}
-use mathlib.Core.List.{List, []}
-use Prim.Native.Nat.{ℕ, ◌≤◌}
-use native.Mathlib.Omega.{arith}
-use lib.ListN.{length, length-replicate}
-use lib.Dec.{leb}
+use Rattle.std.proofs.Common.{Option, None, Some, ◌≡◌, refl, sym, ◌∙◌, ap, Bool, true, false, cond, List, [], ℕ, ◌≤◌, arith, length, leb}
+use Rattle.std.proofs.Math.ListN.{length-replicate}
 use Rattle.eon_spec.specs.Tree.{TokenTree, TokenValue, tree, identifier, number, quoted_string, list_of, map_of, variant_of}
 use Rattle.eon_spec.specs.Records.{tree_records}
 use Rattle.eon_spec.specs.Calls.{Outcome, done, refused_with, then, or_refused, read_finished}

@@ -1,15 +1,7 @@
-use Rattle.std.specs.Prelude.{Option, None, Some}
 -- Lists of path numbers, and what answers gain.
-use mathlib.Core.Path.{◌≡◌, refl, sym, ap, ◌∙◌}
-use mathlib.Core.Bool.{Bool, true, false, ◌&&◌, ◌||◌, cond}
-use mathlib.Core.List.{List, [], ◌∷◌, ◌++◌}
-use Prim.Native.Nat.{ℕ, zero, suc, ◌<◌}
-use native.Mathlib.Omega.{arith}
-use native.Mathlib.Decide.{dec_lt}
-use lib.ListN.{length, get_or, set, length-append}
-use lib.Seq.{get_or-set_same, get_or-set_other}
-use lib.Dec.{eqb}
-use borrow.Author.Tests.{eq-eqb, ne_eqb}
+use Rattle.std.proofs.Common.{Option, None, Some, ◌≡◌, refl, sym, ap, ap₂, ◌∙◌, subst, Bool, true, false, ◌&&◌, ◌||◌, cond, List, [], ◌∷◌, ◌++◌, ℕ, zero, suc, ◌≤◌, ◌<◌, arith, length, get_or, set, take, length-append, get_or-set_same, get_or-set_other, take-suc, eqb, eq-eqb, ne_eqb}
+use Rattle.std.proofs.Math.Dec.{eqb-suc-zero}
+use Rattle.std.proofs.Math.Decide.{dec_lt}
 use Rattle.eon_spec.specs.Base.{elem}
 use Rattle.eon_laws.proofs.Facts.{clash, eq_of, elem_append}
 use Rattle.eon_lookup.specs.Keys.{below}
@@ -69,6 +61,25 @@ all_below (suc n) p h = elem_append p (below n) (n ∷ []) ∙ go (dec_lt p n) (
     go : Dec (p < n) → (p < n → elem p (below n) ≡ true) → elem p (below n) || (eqb p n || false) ≡ true
     go (yes d) f = ap (λ (b : Bool). b || (eqb p n || false)) (f d)
     go (no d) f = ap (λ (b : Bool). elem p (below n) || (b || false)) (eq-eqb p n (omega arith)) ∙ or_yes (elem p (below n))
+
+-- numbers in their places
+pub numbers_below : (l : List ℕ) (n : ℕ) → n ≤ length l → ((i : ℕ) → i < length l → get_or l i 0 ≡ i) → take n l ≡ below n
+numbers_below l zero h f = refl
+numbers_below l (suc n) h f = take-suc l n 0 (omega arith) ∙ ap₂ (λ (a : List ℕ) (x : ℕ). a ++ (x ∷ [])) (numbers_below l n (omega arith) f) (f n (omega arith))
+
+pub neither : (b : Bool) → ◌≡◌ {A = Option ℕ} (cond b None None) None
+neither true = refl
+neither false = refl
+
+-- ---- is a list empty?
+
+pub empty : (l k : List ℕ) → l ≡ k → true ≡ eqb (length l) 0 → k ≡ []
+empty [] k e f = sym e
+empty (x ∷ l) k e f = clash (sym f) (eqb-suc-zero (length l))
+
+pub not_empty : (l k : List ℕ) → l ≡ k → false ≡ eqb (length l) 0 → 0 < length k
+not_empty [] k e f = clash refl (sym f)
+not_empty (x ∷ l) k e f = subst (λ (m : List ℕ). 0 < length m) e (omega arith)
 
 -- ---- answers
 

@@ -1,14 +1,6 @@
-use Rattle.std.specs.Prelude.{Some}
 -- The list of hits is the filter of the table: each hit is a record that shares a byte with the range, each such record is a hit, and their
 -- numbers rise.
-use mathlib.Core.Path.{◌≡◌, refl, ap, subst, ◌∙◌}
-use mathlib.Core.Logic.{◌⊎◌, inl, inr}
-use mathlib.Core.Bool.{Bool, true, false}
-use mathlib.Core.List.{List, [], ◌∷◌}
-use Prim.Native.Nat.{ℕ, zero, suc, ◌+◌, ◌≤◌, ◌<◌, min, max}
-use native.Mathlib.Omega.{arith}
-use lib.ListN.{length}
-use lib.Dec.{ltb, lt→ltb}
+use Rattle.std.proofs.Common.{Some, ◌≡◌, refl, ap, subst, ◌∙◌, ◌⊎◌, inl, inr, Bool, true, false, List, [], ◌∷◌, ℕ, zero, suc, ◌+◌, ◌≤◌, ◌<◌, min, max, arith, length, ltb, lt→ltb}
 use Rattle.eon_spec.specs.declared.Hit.{Hit}
 use Rattle.eon_spec.specs.Records.{Record}
 use Rattle.eon_spec.specs.Pick.{holds_byte, shares_byte, hit_of, hit_then, hits}

@@ -1,13 +1,6 @@
-use Rattle.std.specs.Prelude.{Option, None, Some}
 -- The place picked: the byte is covered and no covered byte wins over it, so none is nearer and of those as near none is earlier; the record
 -- holds it, and none behind it does.
-use mathlib.Core.Path.{◌≡◌, refl, sym, ◌∙◌, ap, subst}
-use mathlib.Core.Bool.{Bool, true, false, ◌&&◌, ◌||◌, cond}
-use mathlib.Core.List.{List, [], ◌∷◌, ◌++◌}
-use Prim.Native.Nat.{ℕ, zero, suc, pred, ◌+◌, ◌-◌, min, max, ◌≤◌, ◌<◌}
-use native.Mathlib.Omega.{arith}
-use lib.Dec.{ltb, leb, eqb}
-use borrow.Author.Tests.{le-leb, lt-ltb, eq-eqb}
+use Rattle.std.proofs.Common.{Option, None, Some, ◌≡◌, refl, sym, ◌∙◌, ap, subst, Bool, true, false, ◌&&◌, ◌||◌, cond, List, [], ◌∷◌, ◌++◌, ℕ, zero, suc, pred, ◌+◌, ◌-◌, min, max, ◌≤◌, ◌<◌, arith, ltb, leb, eqb, le-leb, lt-ltb, eq-eqb}
 use Rattle.eon_spec.specs.Records.{Record}
 use Rattle.eon_laws.proofs.Facts.{clash, and_left, and_right, nor_left, nor_right, false_of, le_of, lt_of, eq_of, le_of_not}
 use Rattle.eon_spec.specs.Pick.{holds_byte, distance, nearest_in, prefers, wins, nearer, nearest, or_this, highest, picked_by, picked}

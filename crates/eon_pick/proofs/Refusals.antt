@@ -1,11 +1,5 @@
-use Rattle.std.specs.Prelude.{Option, None, Some}
 -- Which numbers refuse the two calls: those of the text and its table, then 27, for the empty text alone, or 14. A refusal keeps the list.
-use mathlib.Core.Path.{◌≡◌, refl, sym, ap, ◌∙◌}
-use mathlib.Core.Logic.{◌⊎◌, inl, inr}
-use mathlib.Core.List.{List, []}
-use Prim.Native.Nat.{ℕ, ◌<◌}
-use native.Mathlib.Omega.{arith}
-use lib.ListN.{length}
+use Rattle.std.proofs.Common.{Option, None, Some, ◌≡◌, refl, sym, ap, ◌∙◌, ◌⊎◌, inl, inr, List, [], ℕ, ◌<◌, arith, length}
 use Rattle.eon_spec.specs.Refused.{Refusal}
 use Rattle.eon_spec.specs.declared.Hit.{Hit}
 use Rattle.eon_spec.specs.Tree.{TokenTree}

@@ -18,7 +18,7 @@ unfoldable pub start_of : List ℕ → ℕ
 start_of s = cond (is_utf8 s) 0 (length s)
 
 abbrev pub end_token : List ℕ → PlacedToken
-end_token s = record { kind = 16; start = length s; end = length s }
+end_token s = record { kind = None; start = length s; end = length s }
 
 unfoldable pub first_token : List ℕ → PlacedToken
 first_token s = cond (is_utf8 s) (placed_at s 0) (end_token s)

@@ -2,7 +2,7 @@
 #![tactic(auto)]
 
 ghost use Rattle.std.specs.Prelude.{◌≡◌};
-ghost use Rattle.eon_spec.specs.Layout.{setting_of, default_options};
+ghost use Rattle.eon_spec.specs.Layout.{setting_of, text_of, default_options};
 
 pub mod record_kind;
 pub mod refusal;
@@ -105,6 +105,12 @@ impl Setting {
         bytes[..len].copy_from_slice(text);
         Setting { bytes, len }
     }
+
+    pub fn text(&self) -> &[u8]
+        ensures { result.now ≡ text_of self.now }
+    {
+        &self.bytes[..self.len.min(SETTING_MAX)]
+    }
 }
 
 impl FormatOptions {
@@ -126,14 +132,14 @@ impl FormatOptions {
     }
 
     pub fn with_indentation(mut self, indentation: Setting) -> Self
-        ensures { result ≡ record { indentation = indentation; newline = self.newline; space_before_suffix_comment = self.space_before_suffix_comment; key_value_separator = self.key_value_separator; always_include_outer_braces = self.always_include_outer_braces } }
+        ensures { result ≡ record self { indentation = indentation } }
     {
         self.indentation = indentation;
         self
     }
 
     pub fn with_newline(mut self, newline: Setting) -> Self
-        ensures { result ≡ record { indentation = self.indentation; newline = newline; space_before_suffix_comment = self.space_before_suffix_comment; key_value_separator = self.key_value_separator; always_include_outer_braces = self.always_include_outer_braces } }
+        ensures { result ≡ record self { newline = newline } }
     {
         self.newline = newline;
         self

@@ -58,7 +58,10 @@ impl Reason {
             Reason::UnbalancedParen => 8,
             Reason::Nameless => 9,
             Reason::NoValue => 10,
-            Reason::Mismatch { expected: _, found: _ } => 11,
+            Reason::Mismatch {
+                expected: _,
+                found: _,
+            } => 11,
             Reason::CutOff { expected: _ } => 12,
             Reason::Surplus => 13,
             Reason::NoSpace => 14,

@@ -1,4 +1,4 @@
-use Rattle.std.specs.Prelude.{Option, None, Some, is_some, IsSome}
+use Rattle.std.specs.Prelude.{None, Some, is_some, IsSome}
 -- For who calls the token call again and again: where a token stands, that its end is a boundary, and the token list from there on.
 use mathlib.Core.Path.{◌≡◌, refl, sym, ap, ap₂, subst, ◌∙◌}
 use mathlib.Core.Bool.{Bool, true, false, ◌||◌}
@@ -11,7 +11,7 @@ use lib.Seq.{drop-drop}
 use Rattle.eon_spec.specs.Base.{elem}
 use Rattle.eon_spec.specs.Utf8.{Character, chars, joined, is_utf8, Boundary}
 use Rattle.eon_spec.specs.declared.token_kind.TokenKind.{TokenKind}
-use Rattle.eon_spec.specs.Token.{Token, tokens, tokens_from, rules, longest_rule, placed}
+use Rattle.eon_spec.specs.Token.{tokens, tokens_from, rules, longest_rule, placed}
 use Rattle.eon_laws.proofs.Chars.{AllChars}
 use Rattle.eon_token.specs.Placed.{placed_at, tokens_at, token_of}
 use Rattle.eon_token.specs.declared.token_kind.PlacedToken.{PlacedToken}

@@ -2,6 +2,7 @@ pub mod Tests
 pub mod KindCodes
 pub mod Auto
 pub mod Steps
+pub mod Bytes
 pub mod Longest
 pub mod Bridge
 pub mod Text

@@ -1,14 +1,11 @@
 use Rattle.std.specs.Prelude.{IsSome}
 -- For who walks a text by its cursor: the next token of a place, and the definition's tokens from there on. Assumes nothing.
-use mathlib.Core.Path.{◌≡◌, refl, sym, ap, ◌∙◌}
+use mathlib.Core.Path.{◌≡◌, refl, sym, ap, ap₂, ◌∙◌}
 use mathlib.Core.Bool.{Bool, true, false, ◌||◌}
 use mathlib.Core.List.{List, [], ◌∷◌}
-use Prim.Native.Nat.{ℕ, suc, ◌+◌, ◌-◌, ◌≤◌, ◌<◌}
+use Prim.Native.Nat.{ℕ, ◌≤◌, ◌<◌}
 use native.Mathlib.Omega.{arith}
-use native.Mathlib.Numerals.{add-one}
 use lib.Dec.{eqb}
-use lib.ListN.{length, take, drop, get_or}
-use lib.Seq.{drop-cons}
 use borrow.Author.Tests.{eqb-true, eqb-false}
 use Rattle.eon_spec.specs.Base.{elem}
 use Rattle.eon_spec.specs.Utf8.{is_utf8}
@@ -18,6 +15,8 @@ use Rattle.eon_spec.specs.Parse.{behind, skip, span_of}
 use Rattle.eon_token.specs.declared.cursor.Cursor.{Cursor}
 use Rattle.eon_token.specs.Placed.{placed_at, tokens_at, token_of, code_of}
 use Rattle.eon_token.specs.Place.{Spot, span, place_of, kind_at, next_span, line_feed, cursor_behind, Standing}
+use Rattle.std.specs.List.{list_any}
+use Rattle.eon_laws.proofs.Facts.{eqb_sym}
 use Rattle.eon_token.proofs.Text.{boundary_start}
 use Rattle.eon_token.proofs.Laws.{bounds, end_boundary, tokens_none, tokens_some}
 use Rattle.eon_token.proofs.KindCodes.{code_in, code_le, code_small, there, is_end}
@@ -96,18 +95,6 @@ module _ (s : List ℕ) (c : Cursor) (h : Standing s c) where
 
 -- ---- a line feed between two places
 
-pub feed_none : (s : List ℕ) (b : ℕ) → false ≡ line_feed s b b
-unfolding line_feed
-feed_none s b = ap (λ (n : ℕ). elem 10 (take n (drop b s))) zero_eq
-  where
-    zero_eq : 0 ≡ b - b
-    zero_eq = omega arith
-
-pub feed_more : (s : List ℕ) (i b : ℕ) → i < b → b ≤ length s → line_feed s i b ≡ eqb 10 (get_or s i 0) || line_feed s (i + 1) b
-unfolding line_feed
-feed_more s i b h k =
-    ap (λ (n : ℕ). elem 10 (take n (drop i s))) one_more
-    ∙ ap (λ (l : List ℕ). elem 10 (take (suc (b - (i + 1))) l)) (drop-cons s i 0 (omega arith) ∙ ap (λ (n : ℕ). get_or s i 0 ∷ drop n s) (sym (add-one i)))
-  where
-    one_more : b - i ≡ suc (b - (i + 1))
-    one_more = omega arith
+pub feeds : (b : ℕ) (l : List ℕ) → list_any (λ y. eqb y b) l ≡ elem b l
+feeds b [] = refl
+feeds b (y ∷ l) = ap₂ ◌||◌ (eqb_sym y b) (feeds b l)

@@ -17,7 +17,7 @@ loop-d-init c = let s = c.args.text.now in
 
 pub next-d-requires : goal.next-d-requires
 next-d-requires c = let r = c.loop-d.invariant.1.1 in
-    (standing r, kind_there c.args.text.now c.loop-d.d 0 r 1 c.next_is.result c.next_is.ensures (omega arith) c.loop-d-test.true)
+    record { standing = standing r; there = kind_there c.args.text.now c.loop-d.d 0 r 1 c.next_is.result c.next_is.ensures (omega arith) c.loop-d-test.true }
 
 pub loop-d-smaller : goal.loop-d-smaller
 loop-d-smaller c = let s = c.args.text.now in

@@ -14,7 +14,7 @@ pub line_feed-requires : goal.line_feed-requires
 line_feed-requires c = let s = c.args.text.now in
     let g = peeks_gets s c.args.c 0 c.requires (kind_there s c.args.c 0 c.requires 1 c.next_is.result c.next_is.ensures (omega arith) c.if-not-next_is.false) in
     let b = ap (λ (u : PlacedToken). u.start) (c.peek.ensures ∙ peeks s c.args.c 0 c.requires) in
-    (omega (arith, b, g.behind), omega (arith, b, g.long, g.bound.within))
+    record { order = omega (arith, b, g.behind); within = omega (arith, b, g.long, g.bound.within) }
 
 pub returns-then-line_feed : goal.returns-then-line_feed
 returns-then-line_feed c = let s = c.args.text.now in
