@@ -37,15 +37,12 @@ place_then None o' m size p q = q refl
 place_then (Some at) o' m size p q = grind (arith, common_steps, nat_tests)
 
 place_fits : (o' : Option ℕ) (at m size : ℕ) → at + m ≤ size → place_within o' size ≡ place_after (Some at) m size → o' ≡ Some (at + m)
-place_fits None at m size h e = grind (arith, common_steps, nat_tests)
-place_fits (Some at') at m size h e = grind (arith, common_steps, nat_tests)
+place_fits o' at m size h e = grind (arith, common_steps, nat_tests)
 
 -- a place does not go back, as far as the memory goes
 no_earlier : (o o' : Option ℕ) (m size : ℕ) → place_within o' size ≡ place_after o m size → min (bytes_before o size) size ≤ bytes_before o' size
-no_earlier None None m size e = grind (arith, common_steps, nat_tests)
-no_earlier None (Some at') m size e = grind (arith, common_steps, nat_tests)
-no_earlier (Some at) None m size e = grind (arith, common_steps, nat_tests)
-no_earlier (Some at) (Some at') m size e = grind (arith, common_steps, nat_tests)
+no_earlier None o' m size e = grind (arith, common_steps, nat_tests)
+no_earlier (Some at) o' m size e = grind (arith, common_steps, nat_tests)
 
 -- ---- what was written
 
