@@ -14,4 +14,4 @@ pub returns : goal.returns
 returns c t h = let b = format (settings_of c.args.layout.options.now) t in
     let m = sym (c.format.ensures t h) ∙ c.in-Some.is in
     let w = (c.write.ensures.written t h).fits 0 refl (omega (arith, (fits c.args.out.now b c.in-Some.left m).0)) in
-    filled c.args.out.now b c.in-Some.left m _ (search (rules, w.1))
+    filled c.args.out.now b c.in-Some.left m _ (search (rules, w))
