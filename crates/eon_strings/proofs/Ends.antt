@@ -17,7 +17,8 @@ use Rattle.eon_laws.proofs.Facts.{and_right, list_eq, list_same, nor_left, elem_
 use Rattle.eon_laws.proofs.Utf8.{chars_concat}
 use Rattle.eon_laws.proofs.Chars.{IsChar, AllChars, chars_are, all_formed, all_chars}
 use Rattle.eon_unescape.specs.Views.{kept, Formed, BytesOf}
-use Rattle.eon_strings.specs.Views.{Before, EndsOtherwise}
+use Rattle.std.proofs.lemmas.List.{length-take-le, take-take}
+use Rattle.eon_strings.specs.Views.{Before, EndsOtherwise, FrontOf}
 use Rattle.eon_unescape.proofs.Places.{char_is, high_at, CharIs}
 use Rattle.eon_unescape.proofs.Lists.{without_append}
 
@@ -171,6 +172,12 @@ module _ (q n : ℕ) where
         let s : length u ≡ length v + n = size_all in
         ap (take (length u - n)) e ∙ take_at v (replicate n q) (length u - n) (omega arith)
 
+-- ---- fronts
+
+-- a front of a front
+pub front_of_front : (s t u : List ℕ) → FrontOf s t → FrontOf t u → length u ≤ length t → FrontOf s u
+front_of_front s t u e h l = h ∙ ap (take (length u)) e ∙ take-take (length u) (length t) s l
+
 -- ---- the last byte of a text
 
 module _ (s : List ℕ) (h : 1 ≤ length s) where
@@ -196,6 +203,11 @@ module _ (s : List ℕ) (h : 1 ≤ length s) where
         let r = no_quote_ends (take (length s - 1) s) (get_or s (length s - 1) 0) cut_formed q k n m in
         inr (r.0, r.1, r.2, ap kept cut_last ∙ r.3)
 
+  pub cut_front : (u : List ℕ) → FrontOf u s → FrontOf u (take (length s - 1) s)
+  cut_front u e =
+      let n : length (take (length s - 1) s) ≡ length s - 1 = length-take-le (length s - 1) s (omega arith) in
+      front_of_front u s (take (length s - 1) s) e (ap (λ (k : ℕ). take k s) (sym n)) (omega arith)
+
   pub front_bytes : BytesOf s (take (length s - 1) s)
   front_bytes x e = nor_left (elem x (take (length s - 1) s)) (elem x (get_or s (length s - 1) 0 ∷ [])) (sym (elem_append x (take (length s - 1) s) (get_or s (length s - 1) 0 ∷ [])) ∙ ap (elem x) (sym cut_last) ∙ e)
 
@@ -209,6 +221,7 @@ module _ (s : List ℕ) (q i n : ℕ) (t : List ℕ) (x : Before s q i t) where
   pub before_more : (r : List ℕ) → Before t q 1 r → Before s q (i + 1) r
   before_more r y = record {
     is = x.is ∙ ap (λ (l : List ℕ). l ++ replicate i q) y.is ∙ append_assoc (kept r) (q ∷ []) (replicate i q) ∙ rw (add-one i);
+    before = front_of_front s t r x.before y.before y.shorter;
     formed = y.formed;
     shorter = omega (arith, x.shorter, y.shorter);
     bytes = λ b e. y.bytes b (x.bytes b e);

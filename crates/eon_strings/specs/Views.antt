@@ -10,7 +10,7 @@ use Rattle.eon_spec.specs.declared.Which.TheVariants.{Scratch}
 use Rattle.eon_spec.specs.declared.Part.{Part}
 use Rattle.eon_spec.specs.Calls.{part_of, Outcome, done, refused_with, After, then, fill, handed_back, unescaped_outcome}
 use Rattle.eon_unescape.specs.Modes.{reads_by}
-use Rattle.eon_unescape.specs.Views.{kept, Formed, BytesOf}
+use Rattle.eon_unescape.specs.Views.{kept, Formed, BytesOf, TailOf}
 use Rattle.eon_unescape.specs.declared.mode.Mode.{Mode}
 use Rattle.eon_unescape.specs.declared.mode.Mode.TheVariants.{Literal, Plain, Backslash, Blanks, Unicode, Digits}
 use Rattle.eon_strings.specs.declared.marks.Contents.{Contents}
@@ -19,9 +19,14 @@ use Rattle.eon_strings.specs.declared.marks.Contents.{Contents}
 abbrev pub quotes : ℕ → ℕ → List ℕ → Bool
 quotes q n u = eq_list (take n u) (replicate n q)
 
+-- s without its last bytes
+abbrev pub FrontOf : List ℕ → List ℕ → Type 0
+FrontOf s t = t ≡ take (length t) s
+
 -- the text behind n quotes
 pub record Behind (s : List ℕ) (q n : ℕ) (r : List ℕ) : Type 0 where
   pub is : kept s ≡ replicate n q ++ kept r
+  pub behind : TailOf s r
   pub formed : Formed s → Formed r
   pub shorter : length r ≤ length s
   pub bytes : BytesOf s r
@@ -33,6 +38,7 @@ BehindIs s q n (Some r) = Behind s q n r.now
 -- the text before n quotes at its end
 pub record Before (s : List ℕ) (q n : ℕ) (r : List ℕ) : Type 0 where
   pub is : kept s ≡ kept r ++ replicate n q
+  pub before : FrontOf s r
   pub formed : Formed r
   pub shorter : length r ≤ length s
   pub bytes : BytesOf s r

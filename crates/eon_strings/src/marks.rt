@@ -79,6 +79,7 @@ pub fn in_quotes(text: &[u8]) -> Result<Contents<'_>, Reason>
 }
 
 // The text behind an opening mark.
+#[tactic(auto, using(eon_unescape::proofs::Lists::tail_of_tail))]
 fn behind(text: &[u8], mark: Mark) -> Option<&[u8]>
     ensures { BehindIs text.now mark.quote mark.count result }
 {

@@ -1,12 +1,13 @@
 -- The characters of a text without carriage returns, one by one.
-use Rattle.std.proofs.Common.{◌≡◌, refl, sym, ap, ◌∙◌, ℕ, zero, suc, ◌-◌, ◌<◌, List, [], ◌∷◌, map, length, drop, take, length-drop, arith}
+use Rattle.std.proofs.Common.{◌≡◌, refl, sym, ap, ◌∙◌, ℕ, zero, suc, ◌-◌, ◌≤◌, ◌<◌, List, [], ◌∷◌, map, length, drop, take, length-drop, arith}
 use borrow.Author.Tests.{eq-eqb, ne_eqb}
 use lib.ListN.{take-append-drop}
 use Rattle.eon_spec.specs.Base.{elem}
 use Rattle.eon_laws.proofs.Facts.{nor_right, elem_append}
 use Rattle.eon_spec.specs.Utf8.{char_len, chars_from, chars, decode, code_point, Character, well_formed_len}
 use Rattle.eon_spec.specs.Unquote.{without}
-use Rattle.eon_unescape.specs.Views.{kept, Formed, BytesOf}
+use Rattle.eon_unescape.proofs.Lists.{tail_drop}
+use Rattle.eon_unescape.specs.Views.{kept, Formed, BytesOf, TailOf}
 use Rattle.eon_utf8.specs.Post.{StartsWith}
 use Rattle.eon_utf8.specs.declared.Char.{Char}
 use Rattle.eon_utf8.proofs.Formed.{goes_on, rest}
@@ -57,6 +58,9 @@ module _ (s : List ℕ) (c : Char) (h : StartsWith s c) where
 
   pub shorter : length (take (length s - c.len) (drop c.len s)) < length s
   shorter = rw (rest s c.len) (omega (arith, length-drop c.len s, h.inside, h.some))
+
+  pub tail_step : (u : List ℕ) → TailOf u s → length s ≤ length u → TailOf u (take (length s - c.len) (drop c.len s))
+  tail_step u e l = rw (rest s c.len) (tail_drop u s c.len e l h.inside)
 
   pub rest_bytes : BytesOf s (take (length s - c.len) (drop c.len s))
   rest_bytes x e = rw (rest s c.len) (nor_right (elem x (take c.len s)) (elem x (drop c.len s)) (sym (elem_append x (take c.len s) (drop c.len s)) ∙ rw (take-append-drop c.len s) e))

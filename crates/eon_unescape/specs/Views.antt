@@ -1,5 +1,5 @@
 -- What the functions' answers say.
-use Rattle.std.specs.Prelude.{ℕ, ◌+◌, ◌≤◌, ◌<◌, ◌≡◌, ◌==◌, Bool, false, ◌||◌, not, List, [], ◌∷◌, length, drop, take, Option, Some, None, Result, Ok, Err}
+use Rattle.std.specs.Prelude.{ℕ, ◌+◌, ◌-◌, ◌≤◌, ◌<◌, ◌≡◌, ◌==◌, Bool, false, ◌||◌, not, List, [], ◌∷◌, length, drop, take, Option, Some, None, Result, Ok, Err}
 use Rattle.std.proofs.lemmas.List.Edits.{sets}
 use Rattle.eon_spec.specs.Base.{elem}
 use Rattle.eon_spec.specs.Utf8.{decode, encode, well_formed_len}
@@ -23,9 +23,14 @@ Formed s = well_formed_len s ≡ length s
 abbrev pub BytesOf : List ℕ → List ℕ → Type 0
 BytesOf s t = (x : ℕ) → elem x s ≡ false → elem x t ≡ false
 
+-- s without its first bytes
+abbrev pub TailOf : List ℕ → List ℕ → Type 0
+TailOf s t = t ≡ drop (length s - length t) s
+
 -- the first of those characters, and the text behind it
 pub record Begins (s : List ℕ) (n : Next) : Type 0 where
   pub is : kept s ≡ n.code ∷ kept n.rest.now
+  pub behind : TailOf s n.rest.now
   pub shorter : length n.rest.now < length s
   pub formed : Formed s → Formed n.rest.now
   pub bytes : BytesOf s n.rest.now
