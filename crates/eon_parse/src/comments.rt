@@ -12,6 +12,7 @@ use eon_spec::{RecordKind, TokenKind};
 use eon_token::cursor::{Cursor, line_feed};
 
 // The comments from here on are records of a kind (parse_comments).
+#[inline(always)]
 pub fn comments(text: &[u8], old: &[u32], out: &mut [u32], w: Walk, kind: RecordKind) -> Walk
     requires ready { Ready text.now w.cursor w.count }
     requires nameless { eqb (word_of kind) 6 ≡ false }
@@ -26,6 +27,7 @@ pub fn comments(text: &[u8], old: &[u32], out: &mut [u32], w: Walk, kind: Record
 }
 
 // The next token is a record with nothing inside.
+#[inline(always)]
 pub fn leaf(text: &[u8], old: &[u32], out: &mut [u32], w: Walk, kind: RecordKind) -> Walk
     requires ready { Ready text.now w.cursor w.count }
     requires token { IsSome w.cursor.peeked.kind }
@@ -49,6 +51,7 @@ pub fn ahead(text: &[u8], c: Cursor) -> Cursor
 }
 
 // Does an inside end here, after its comments?
+#[inline(always)]
 pub fn ends(text: &[u8], w: Walk) -> bool
     requires { Ready text.now w.cursor w.count }
     ensures { result ≡ stops text.now (place w) }
@@ -70,6 +73,7 @@ fn closes(kind: Option<TokenKind>) -> bool
 }
 
 // Behind a suffix comment, if one stands here (parse_suffix_comment).
+#[inline(always)]
 pub fn suffix_end(text: &[u8], c: Cursor) -> Cursor
     requires { Ready text.now c 0 }
     ensures { result ≡ cursor_at text.now (suffix_end text.now (place_of c)) }
@@ -84,6 +88,7 @@ pub fn suffix_end(text: &[u8], c: Cursor) -> Cursor
 }
 
 // The record of a suffix comment: one was read, if the last token ends behind the value.
+#[inline(always)]
 pub fn tail(old: &[u32], out: &mut [u32], v: Past) -> Walk
     requires few { v.walk.count ≤ 65536 }
     requires order { v.walk.cursor.start ≤ v.walk.cursor.end }
@@ -109,6 +114,7 @@ pub fn tail(old: &[u32], out: &mut [u32], v: Past) -> Walk
 }
 
 // After a value: a comma looks for the suffix comment anew.
+#[inline(always)]
 pub fn settle(text: &[u8], old: &[u32], out: &mut [u32], v: Past) -> Walk
     requires { Ready text.now v.walk.cursor v.walk.count }
     ensures walk { result ≡ ran text.now old.now v.walk (settled_r text.now (place v.walk) v.from) }

@@ -1,4 +1,6 @@
 // The readers, one cycle: each compares the records that it reads with an old table, and stores them in another. Either may be empty.
+// A level of nesting is `value` and `core`: what else a level calls goes into `core`, whose frame then holds no walk or record twice, so
+// that deep texts need little stack.
 ghost use Rattle.std.specs.Prelude.{◌≡◌, ◌-◌, length, IsSome};
 ghost use Rattle.eon_spec.specs.Token.{kind_number};
 ghost use Rattle.eon_token.specs.Placed.{code_of};
@@ -12,6 +14,7 @@ use crate::walk::{Begun, Past, Stop, Walk, next_is};
 use eon_spec::{Reason, RecordKind, Refusal, TokenKind};
 
 // A value of a list, with the comments around it.
+#[inline(always)]
 #[cycle(reading)]
 pub fn one(text: &[u8], old: &[u32], out: &mut [u32], w: Walk, depth: usize) -> Result<Walk, Stop>
     requires { Ready text.now w.cursor w.count }
@@ -19,7 +22,7 @@ pub fn one(text: &[u8], old: &[u32], out: &mut [u32], w: Walk, depth: usize) -> 
     ensures stored { Stored out.old w (one text.now (below depth text.now) (place w)) out.new }
 {
     let d = comments(text, old, out, w, RecordKind::PrefixComment);
-    // A `match`, as in `list`: with `?` a level of nesting takes some 250 bytes of stack more.
+    // A `match`, as in `list`: with `?` a level of nesting took more stack.
     match value(text, old, out, d, less(depth)) {
         Err(x) => Err(x),
         Ok(v) => Ok(settle(text, old, out, v)),
@@ -27,6 +30,7 @@ pub fn one(text: &[u8], old: &[u32], out: &mut [u32], w: Walk, depth: usize) -> 
 }
 
 // A key and its value, with the comments around them.
+#[inline(always)]
 #[cycle(reading)]
 fn two(text: &[u8], old: &[u32], out: &mut [u32], w: Walk, depth: usize) -> Result<Walk, Stop>
     requires { Ready text.now w.cursor w.count }
@@ -41,6 +45,7 @@ fn two(text: &[u8], old: &[u32], out: &mut [u32], w: Walk, depth: usize) -> Resu
 }
 
 // The inside of a list or a variant (parse_list_contents): values up to a closing token, and the comments before it.
+#[inline(always)]
 #[cycle(reading)]
 pub fn list(text: &[u8], old: &[u32], out: &mut [u32], w: Walk, depth: usize) -> Result<Walk, Stop>
     requires { Ready text.now w.cursor w.count }
@@ -62,6 +67,7 @@ pub fn list(text: &[u8], old: &[u32], out: &mut [u32], w: Walk, depth: usize) ->
 }
 
 // The inside of a map (parse_map_contents): keys and values.
+#[inline(always)]
 #[cycle(reading)]
 pub fn map(text: &[u8], old: &[u32], out: &mut [u32], w: Walk, depth: usize) -> Result<Walk, Stop>
     requires { Ready text.now w.cursor w.count }
@@ -95,6 +101,7 @@ fn value(text: &[u8], old: &[u32], out: &mut [u32], w: Walk, depth: usize) -> Re
 }
 
 // A value behind its prefix comments.
+#[inline(never)]
 #[cycle(reading)]
 fn core(text: &[u8], old: &[u32], out: &mut [u32], w: Walk, depth: usize) -> Result<Walk, Stop>
     requires { Ready text.now w.cursor w.count }
@@ -138,6 +145,7 @@ fn core(text: &[u8], old: &[u32], out: &mut [u32], w: Walk, depth: usize) -> Res
 }
 
 // A string, or the name of a variant.
+#[inline(always)]
 #[cycle(reading)]
 fn string(text: &[u8], old: &[u32], out: &mut [u32], w: Walk, depth: usize) -> Result<Walk, Stop>
     requires ready { Ready text.now w.cursor w.count }
@@ -158,6 +166,7 @@ fn string(text: &[u8], old: &[u32], out: &mut [u32], w: Walk, depth: usize) -> R
 }
 
 // A container's end: the token that closes it, and then its record.
+#[inline(always)]
 fn close(
     text: &[u8],
     old: &[u32],
@@ -176,6 +185,7 @@ fn close(
 }
 
 // The next token must be of a kind (consume_token).
+#[inline(always)]
 fn must(text: &[u8], w: Walk, k: TokenKind) -> Result<Walk, Stop>
     requires { Ready text.now w.cursor w.count }
     ensures { result ≡ expected text.now w (expect text.now k (place w)) }
@@ -194,6 +204,7 @@ fn must(text: &[u8], w: Walk, k: TokenKind) -> Result<Walk, Stop>
 }
 
 // The refusal of a token that begins no value.
+#[inline(always)]
 fn no_value(text: &[u8], w: Walk) -> Stop
     ensures { result ≡ no_value (length text.now) w.cursor }
 {
@@ -223,6 +234,7 @@ fn reason_of(kind: TokenKind) -> Reason
 }
 
 // One step of depth less, and never below 0.
+#[inline(always)]
 fn less(depth: usize) -> usize
     ensures { result ≡ depth - 1 }
 {

@@ -45,6 +45,7 @@ pub struct Past {
 }
 
 impl Walk {
+    #[inline(always)]
     pub fn kind(self) -> Option<TokenKind>
         ensures { result ≡ self.cursor.peeked.kind }
     {
@@ -52,6 +53,7 @@ impl Walk {
     }
 
     // At another place.
+    #[inline(always)]
     pub fn at(self, cursor: Cursor) -> Walk
         ensures { result ≡ set_cursor self cursor }
     {
@@ -59,6 +61,7 @@ impl Walk {
     }
 
     // Past the next token.
+    #[inline(always)]
     pub fn skip(self, text: &[u8]) -> Walk
         requires ready { Ready text.now self.cursor self.count }
         requires token { IsSome self.cursor.peeked.kind }
@@ -68,6 +71,7 @@ impl Walk {
     }
 
     // Past a token that starts a record: the record is counted, and is compared and stored once its end is known.
+    #[inline(always)]
     pub fn enter(self, text: &[u8]) -> Walk
         requires ready { Ready text.now self.cursor self.count }
         requires token { IsSome self.cursor.peeked.kind }
@@ -81,6 +85,7 @@ impl Walk {
     }
 
     // A record that starts with the next token.
+    #[inline(always)]
     pub fn begin(self, kind: RecordKind) -> Begun
         ensures { result ≡ begun kind self.count self.cursor.peeked.start 0 }
     {
@@ -93,6 +98,7 @@ impl Walk {
     }
 
     // The record ends here.
+    #[inline(always)]
     pub fn end(self, old: &[u32], out: &mut [u32], begun: Begun) -> Walk
         requires { Open self begun }
         ensures walk { result ≡ ended_at self old.now begun }
@@ -110,6 +116,7 @@ impl Walk {
     }
 
     // The record is compared with the old table's at i, and stored there.
+    #[inline(always)]
     pub fn put(self, old: &[u32], out: &mut [u32], i: usize, row: Record) -> Walk
         requires { i < 1000000 }
         ensures walk { result ≡ put_at self old.now i (words_of row) }
