@@ -7,8 +7,9 @@ use eon::{RefusalKind, TokenKind, stack};
 const HEADER: &str = include_str!("../../../include/eon.h");
 const REFUSALS: &str = include_str!("../../../docs/REFUSALS.md");
 const TYPES: &str = include_str!("../../../crates/eon_spec/src/lib.rt");
-const REFUSAL_LIST: &str = include_str!("../../../crates/eon_spec/src/error.rt");
-const RECORD_KIND_LIST: &str = include_str!("../../../crates/eon_spec/src/record_kind.rt");
+const REASONS: &str = include_str!("../../../crates/eon_spec/src/refusal.rt");
+const TOKEN_KINDS: &str = include_str!("../../../crates/eon_spec/src/token_kind.rt");
+const RECORD_KINDS: &str = include_str!("../../../crates/eon_spec/src/record_kind.rt");
 const RECORD_KIND_DEFINITIONS: &str =
     include_str!("../../../crates/eon_spec/specs/RecordKind.antt");
 
@@ -31,17 +32,18 @@ fn header_names(name: &str, prefix: &str) -> Vec<String> {
         .collect()
 }
 
-/// A list of the library has these constants and no other, each with its number from 1 on.
-fn lists(list: &str, kind: &str, names: &[String]) {
-    let found: Vec<&str> = list
-        .lines()
-        .filter(|line| line.starts_with("pub const"))
-        .collect();
-    let wanted = (1..).zip(names);
-    let wanted: Vec<String> = wanted
-        .map(|(number, name)| format!("pub const {name}: {kind} = {number};"))
-        .collect();
-    assert_eq!(found, wanted);
+/// The cases of an enum of the library, in their order, as the header spells them.
+fn library_cases(source: &str, name: &str) -> Vec<String> {
+    let start = source
+        .find(&format!("pub enum {name} {{"))
+        .expect("an enum");
+    let body = &source[start..];
+    let lines = body[..body.find("\n}").expect("its end")].lines().skip(1);
+    lines
+        .filter_map(|line| line.strip_prefix("    "))
+        .filter(|line| line.starts_with(char::is_uppercase))
+        .map(|line| screaming(line.split([',', ' ']).next().expect("a case")))
+        .collect()
 }
 
 /// `NoScalarValue` as `NO_SCALAR_VALUE`.
@@ -79,13 +81,29 @@ fn refusals() {
 
 #[test]
 fn refusal_list() {
-    lists(REFUSAL_LIST, "u32", &header_names("eon_refusal", "EON_"));
+    let names = header_names("eon_refusal", "EON_");
+    assert_eq!(library_cases(REASONS, "Reason"), names);
+    let numbers = REASONS
+        .lines()
+        .filter_map(|line| line.trim().strip_prefix("Reason::")?.split_once(" => "));
+    let numbered: Vec<String> = numbers
+        .take(names.len())
+        .map(|(case, number)| {
+            let name = case.split(' ').next().expect("a case");
+            format!("{} {number}", screaming(name))
+        })
+        .collect();
+    let wanted = (1..)
+        .zip(&names)
+        .map(|(number, name)| format!("{name} {number},"));
+    assert_eq!(numbered, wanted.collect::<Vec<_>>());
 }
 
 #[test]
 fn record_kinds() {
     let names = header_names("eon_record_kind", "EON_RECORD_");
-    lists(RECORD_KIND_LIST, "usize", &names);
+    assert_eq!(library_cases(RECORD_KINDS, "RecordKind"), names);
+    assert!(RECORD_KINDS.contains("    Identifier = 1,\n"));
     for (number, name) in (1..).zip(&names) {
         let definition = format!("\n{name} = {number}\n");
         assert!(RECORD_KIND_DEFINITIONS.contains(&definition), "{name}");
@@ -105,6 +123,9 @@ fn token_kinds() {
     }
     let behind = cases.len() as u32 + 1;
     assert_eq!(TokenKind::of_number(behind), TokenKind::Other(behind));
+    let mut names = vec!["INVALID".to_owned()];
+    names.extend(header_names("eon_token_kind", "EON_TOKEN_"));
+    assert_eq!(library_cases(TOKEN_KINDS, "TokenKind"), names);
 }
 
 /// The header defines the name so.

@@ -1,8 +1,7 @@
-// The lines of the oracle's protocol (oracle/README.md): their words, bytes in hexadecimal, numbers, and what is printed.
+// The lines of the oracle's protocol (oracle/README.md): how they are read, what their words stand for, and what is printed.
 #![tactic(auto)]
 
-pub mod hex;
 pub mod input;
-pub mod line;
-pub mod number;
-pub mod print;
+pub mod reply;
+pub mod tokens;
+pub mod word;

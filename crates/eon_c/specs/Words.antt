@@ -1,13 +1,14 @@
 -- An answer as eight words: number, start, end, expected kind and found kind of a refusal, then count, slice and start of a value.
 -- Refused, the last three are 0; answered, the first five are.
 use Rattle.std.specs.Prelude.{ℕ, zero, suc, ◌≡◌, Bool, cond, List, [], ◌∷◌}
-use Rattle.eon_spec.specs.declared.Refusal.{Refusal}
+use Rattle.eon_spec.specs.Refused.{Refusal}
 use Rattle.eon_spec.specs.declared.Which.{Which}
 use Rattle.eon_spec.specs.declared.Which.TheVariants.{Quoted, Scratch}
 use Rattle.eon_spec.specs.declared.FormatOptions.{FormatOptions}
 use Rattle.eon_spec.specs.declared.Found.{Found}
 use Rattle.eon_spec.specs.Layout.{setting_of}
-use Rattle.eon_spec.specs.Calls.{Outcome, done, refused_with, outcome_of, Part}
+use Rattle.eon_spec.specs.declared.Part.{Part}
+use Rattle.eon_spec.specs.Calls.{Outcome, done, refused_with, outcome_of}
 use Rattle.eon_spec.specs.Lookup.{Looked, SomeOfEach}
 
 abbrev pub refused_words : Refusal → List ℕ

@@ -3,24 +3,23 @@
 
 ghost use Rattle.std.specs.Prelude.{◌≡◌, length};
 ghost use Rattle.eon_spec.specs.Unquote.{is_valid_identifier};
-ghost use Rattle.eon_spec.specs.Calls.{after, outcome_of, read_call, format_call, reformat_call, compared_outcome, compare_call, unquoted_outcome, unquote_call, part_of, show_call};
+ghost use Rattle.eon_spec.specs.Refused.{refusal_of};
+ghost use Rattle.eon_spec.specs.Calls.{after, outcome_of, read_call, format_call, reformat_call, compare_call, unquote_call, part_of, show_call};
 ghost use Rattle.eon_spec.specs.Pick.{record_at_call, records_in_call};
 ghost use Rattle.eon_spec.specs.Lookup.{lookup_call, steps_of};
 ghost use Rattle.eon_c.specs.Words.{refused_words, done_words, count_words, truth_words, slice_number, which_of, part_words, shown_words, options_of, LentAnswers, found_or};
 
-use eon_spec::{
-    Answer, Compared, FormatOptions, Found, Hit, PATHS_MAX, Refusal, Setting, Unquoted, Which,
-};
+use eon_spec::{FormatOptions, Found, Hit, PATHS_MAX, Part, Refusal, Setting, Which};
 
 fn refused_words(r: Refusal) -> [u64; 8]
-    ensures { result ≡ refused_words r }
+    ensures { result ≡ refused_words (refusal_of r) }
 {
     [
-        r.number as u64,
+        u64::from(r.reason.number()),
         r.start as u64,
         r.end as u64,
-        r.expected as u64,
-        r.found as u64,
+        u64::from(r.reason.expected()),
+        u64::from(r.reason.found()),
         0,
         0,
         0,
@@ -33,27 +32,21 @@ fn done_words(count: u64, slice: u64, start: u64) -> [u64; 8]
     [0, 0, 0, 0, 0, count, slice, start]
 }
 
-fn count_words(a: Answer) -> [u64; 8]
+fn count_words(a: Result<usize, Refusal>) -> [u64; 8]
     ensures { result ≡ count_words (outcome_of a) }
 {
     match a {
-        Answer::Done(n) => done_words(n as u64, 0, 0),
-        Answer::Refused(r) => refused_words(r),
+        Ok(n) => done_words(n as u64, 0, 0),
+        Err(r) => refused_words(r),
     }
 }
 
-fn put_count(a: Answer, answer: &mut [u64; 8])
-    ensures { answer.new ≡ count_words (outcome_of a) }
-{
-    *answer = count_words(a);
-}
-
-fn truth_words(c: Compared) -> [u64; 8]
-    ensures { result ≡ truth_words (compared_outcome c) }
+fn truth_words(c: Result<bool, Refusal>) -> [u64; 8]
+    ensures { result ≡ truth_words (outcome_of c) }
 {
     match c {
-        Compared::Equal(b) => done_words(b as u64, 0, 0),
-        Compared::Refused(r) => refused_words(r),
+        Ok(b) => done_words(b as u64, 0, 0),
+        Err(r) => refused_words(r),
     }
 }
 
@@ -61,21 +54,16 @@ fn truth_words(c: Compared) -> [u64; 8]
 fn found_or(f: Found, old: [u32; PATHS_MAX]) -> [u32; PATHS_MAX]
     ensures { result ≡ found_or f old }
 {
-    let answer = f.answer;
-    let answers = f.answers;
-    match answer {
-        Answer::Done(n) => answers,
-        Answer::Refused(r) => old,
+    match f.answer {
+        Ok(_) => f.answers,
+        Err(_) => old,
     }
 }
 
 fn slice_number(which: Which) -> u64
     ensures { result ≡ slice_number which }
 {
-    match which {
-        Which::Quoted => 0,
-        Which::Scratch => 1,
-    }
+    which as u64
 }
 
 // 0 names the quoted slice, any other number the scratch.
@@ -83,19 +71,18 @@ fn which_of(slice: u64) -> Which
     ensures { result ≡ which_of slice }
 {
     if slice == 0 {
-        return Which::Quoted;
+        Which::Quoted
+    } else {
+        Which::Scratch
     }
-    Which::Scratch
 }
 
-fn part_words(u: Unquoted) -> [u64; 8]
-    ensures { result ≡ part_words (unquoted_outcome u) }
+fn part_words(u: Result<Part, Refusal>) -> [u64; 8]
+    ensures { result ≡ part_words (outcome_of u) }
 {
     match u {
-        Unquoted::Part(which, start, len) => {
-            done_words(len as u64, slice_number(which), start as u64)
-        }
-        Unquoted::Refused(r) => refused_words(r),
+        Ok(part) => done_words(part.len as u64, slice_number(part.which), part.start as u64),
+        Err(r) => refused_words(r),
     }
 }
 
@@ -189,7 +176,6 @@ pub extern "C" fn eon_record_at(text: &[u8], table: &[u32], offset: usize, answe
     *answer = count_words(eon_syntax::record_at(text, table, offset));
 }
 
-// Hands both memories on and decides nothing.
 #[unsafe(no_mangle)]
 pub extern "C" fn eon_records_in(
     text: &[u8],
@@ -199,10 +185,10 @@ pub extern "C" fn eon_records_in(
     hits: &mut [Hit],
     answer: &mut [u64; 8],
 )
-    ensures { (answer.new ≡ count_words (records_in_call text.now table.now from to hits.old).answer) × (hits.new ≡ (records_in_call text.now table.now from to hits.old).memory) }
+    ensures answer_after { answer.new ≡ count_words (records_in_call text.now table.now from to hits.old).answer }
+    ensures hits_after { hits.new ≡ (records_in_call text.now table.now from to hits.old).memory }
 {
-    let found = eon_syntax::records_in(text, table, from, to, hits);
-    put_count(found, answer);
+    *answer = count_words(eon_syntax::records_in(text, table, from, to, hits));
 }
 
 #[unsafe(no_mangle)]
@@ -218,10 +204,8 @@ pub extern "C" fn eon_lookup(
     ensures lent_answers { LentAnswers (lookup_call text.now table.now paths.now paths_table.now) answers.old answers.new }
 {
     let found = eon_syntax::lookup(text, table, paths, paths_table);
-    let old = *answers;
-    *answers = found_or(found, old);
-    let steps = found.answer;
-    *answer = count_words(steps);
+    *answers = found_or(found, *answers);
+    *answer = count_words(found.answer);
 }
 
 #[unsafe(no_mangle)]
@@ -253,7 +237,8 @@ pub extern "C" fn eon_show<'a>(
 )
     ensures { answer.new ≡ shown_words (length (show_call (part_of (which_of slice) start len) quoted.now scratch.now)) (which_of slice) start }
 {
-    let shown = eon_syntax::show(quoted, scratch, which_of(slice), start, len);
+    let which = which_of(slice);
+    let shown = eon_syntax::show(quoted, scratch, Part { which, start, len });
     *answer = shown_words(shown.len(), slice, start);
 }
 

@@ -1,5 +1,5 @@
--- The comparison of two records, and how many a record holds.
-use Rattle.std.specs.Prelude.{ℕ, ◌-◌, Bool, ◌&&◌, cond, List, leb, eqb}
+-- The comparison of two records.
+use Rattle.std.specs.Prelude.{ℕ, Bool, ◌&&◌, List, eqb}
 use Rattle.eon_spec.specs.Base.{eq_list}
 use Rattle.eon_spec.specs.Records.{Record}
 use Rattle.eon_spec.specs.Calls.{record_text}
@@ -7,7 +7,3 @@ use Rattle.eon_spec.specs.Calls.{record_text}
 -- what `same_records` asks of each pair of records
 abbrev pub same_record : List ℕ → Record → List ℕ → Record → Bool
 same_record s r t q = eqb r.kind q.kind && eqb r.size q.size && eq_list (record_text s r) (record_text t q)
-
--- the records in one of this size, where so many are left behind it
-abbrev pub inside_of : ℕ → ℕ → ℕ
-inside_of size left = cond (leb (size - 1) left) (size - 1) 0

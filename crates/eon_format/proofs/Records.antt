@@ -1,7 +1,7 @@
+use Rattle.std.specs.Prelude.{Option, None, Some}
 -- Comments by the table's words, and as the definition writes them.
 use mathlib.Core.Path.{◌≡◌, refl, ap, ◌∙◌}
 use mathlib.Core.Bool.{Bool, true, false}
-use mathlib.Core.Option.{Option, none, some}
 use mathlib.Core.List.{List, [], ◌∷◌, ◌++◌}
 use Prim.Native.Nat.{ℕ, suc, ◌+◌, ◌-◌, ◌≤◌, ◌<◌}
 use native.Mathlib.Omega.{arith}
@@ -10,7 +10,7 @@ use Rattle.eon_spec.specs.Tree.{Slice}
 use Rattle.eon_spec.specs.Layout.{Settings, add_indent, suffix_comment, indented_comments, closing}
 use Rattle.eon_laws.proofs.Facts.{clash}
 use Rattle.eon_format.specs.Lines.{lines, closing_lines}
-use Rattle.eon_table.specs.Words.{has_suffix, Within, text_at}
+use Rattle.eon_table.specs.Words.{has_suffix, text_at}
 use Rattle.eon_table.specs.TreeAt.{SuffixAt, CommentsAt}
 
 -- ---- comments
@@ -58,14 +58,10 @@ closing_none s tb o n i end empty h = let d : end - i ≡ 0 = omega arith in rw 
 
 -- ---- suffix comments
 
-pub suffix_within : (s tb : List ℕ) (end i : ℕ) (x : Option Slice) → SuffixAt s tb end i x → has_suffix tb end i ≡ true → Within s tb i
-suffix_within s tb end i none h e = clash e h
-suffix_within s tb end i (some c) h e = h.1.in_text
-
 pub suffix_some : (s tb : List ℕ) (o : Settings) (end i : ℕ) (x : Option Slice) → SuffixAt s tb end i x → has_suffix tb end i ≡ true → (32 ∷ []) ++ text_at s tb i ≡ suffix_comment o x
-suffix_some s tb o end i none h e = clash e h
-suffix_some s tb o end i (some c) h e = ap (λ (b : List ℕ). 32 ∷ b) h.1.bytes
+suffix_some s tb o end i None h e = clash e h
+suffix_some s tb o end i (Some c) h e = ap (λ (b : List ℕ). 32 ∷ b) h.1.bytes
 
 pub suffix_none : (s tb : List ℕ) (o : Settings) (end i : ℕ) (x : Option Slice) → SuffixAt s tb end i x → has_suffix tb end i ≡ false → [] ≡ suffix_comment o x
-suffix_none s tb o end i none h e = refl
-suffix_none s tb o end i (some c) h e = clash h.0 e
+suffix_none s tb o end i None h e = refl
+suffix_none s tb o end i (Some c) h e = clash h.0 e

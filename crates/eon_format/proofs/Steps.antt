@@ -2,7 +2,7 @@
 use mathlib.Core.Path.{◌≡◌, refl, sym, ap, ◌∙◌}
 use mathlib.Core.Bool.{Bool, true, false, ◌&&◌, cond}
 use mathlib.Core.List.{List, [], ◌∷◌, ◌++◌, append_assoc}
-use Prim.Native.Nat.{ℕ, zero, suc, ◌+◌, ◌-◌, ◌≤◌, ◌<◌}
+use Prim.Native.Nat.{ℕ, suc, ◌+◌, ◌-◌, ◌≤◌, ◌<◌}
 use native.Mathlib.Omega.{arith}
 use native.Mathlib.Decide.{dec_le}
 use native.Mathlib.Numerals.{add-one}
@@ -17,13 +17,12 @@ use Rattle.eon_format.specs.Lines.{closing_lines}
 use Rattle.eon_format.proofs.Records.{closing_comments}
 use Rattle.eon_laws.proofs.Facts.{clash}
 use Rattle.eon_one_line.proofs.Words.{flat_one, flat_more}
-use Rattle.eon_put.specs.Put.{Wrote}
-use Rattle.eon_put.proofs.Writing.{wrote_as, wrote_then}
+use Rattle.eon_put.proofs.Going.{Appends, put_as}
 use Rattle.eon_one_line.proofs.Trees.{one_line_law}
 use Rattle.eon_format.specs.Long.{long_list, long_map, long_variant, pair_text, blank_at}
 use Rattle.eon_one_line.proofs.Rows.{more_list, more_map}
 use Rattle.eon_format.proofs.Walk.{paired_empty}
-use Rattle.eon_table.specs.Words.{word, Within, text_at}
+use Rattle.eon_table.specs.Words.{word, text_at}
 use Rattle.eon_table.specs.TreeAt.{PairedAt, SomeList, SomeMap, SomeVariant, ValueAt, InsideAt, kind_of, value_of}
 use Rattle.eon_laws.proofs.Records.{tree_size, value_size, trees_size, pairs_size}
 use Rattle.eon_table.proofs.Walk.{tree_pos, value_kind, value_size_lem, list_inside_lem, variant_inside, paired_end, paired_closing}
@@ -133,27 +132,27 @@ module _ (s tb : List ℕ) (i : ℕ) where
   unfolding ValueAt
   variant_text m vs cl h = h.4
 
-  module _ (o : Settings) (n : ℕ) {live : Bool} {out : List ℕ} {at r : ℕ} {out' : List ℕ} where
+  module _ (o : Settings) (n : ℕ) {A : Type 0} (puts : A → List ℕ → A → Type 0) {from to : A} where
     pub list_value : (v : TokenValue) → ValueAt s tb i v → flat_at s tb i ≡ false → word tb i 0 ≡ 4 →
-        ((vs : TokenTrees) (cl : List Slice) → ValueAt s tb i (list_of vs cl) → Wrote live out at (long_list o n vs cl) r out') → Wrote live out at (value o n v) r out'
+        ((vs : TokenTrees) (cl : List Slice) → ValueAt s tb i (list_of vs cl) → puts from (long_list o n vs cl) to) → puts from (value o n v) to
     list_value (identifier b) h f e w = off_kind (identifier b) 4 h e (λ z. omega arith)
     list_value (number b) h f e w = off_kind (number b) 4 h e (λ z. omega arith)
     list_value (quoted_string b) h f e w = off_kind (quoted_string b) 4 h e (λ z. omega arith)
-    list_value (list_of vs cl) h f e w = wrote_as (list_lines o n vs cl (full_list vs cl h (not_flat f)) (not_line vs cl 4 (list_inside_lem s tb i vs cl h) e (λ z. omega arith) f)) (w vs cl h)
+    list_value (list_of vs cl) h f e w = put_as puts (list_lines o n vs cl (full_list vs cl h (not_flat f)) (not_line vs cl 4 (list_inside_lem s tb i vs cl h) e (λ z. omega arith) f)) (w vs cl h)
     list_value (map_of kvs cl) h f e w = off_kind (map_of kvs cl) 4 h e (λ z. omega arith)
     list_value (variant_of m vs cl) h f e w = off_kind (variant_of m vs cl) 4 h e (λ z. omega arith)
 
     pub map_value_lem : (v : TokenValue) → ValueAt s tb i v → flat_at s tb i ≡ false → word tb i 0 ≡ 5 →
-        ((kvs : KeyValues) (cl : List Slice) → ValueAt s tb i (map_of kvs cl) → Wrote live out at (long_map o n kvs cl) r out') → Wrote live out at (value o n v) r out'
+        ((kvs : KeyValues) (cl : List Slice) → ValueAt s tb i (map_of kvs cl) → puts from (long_map o n kvs cl) to) → puts from (value o n v) to
     map_value_lem (identifier b) h f e w = off_kind (identifier b) 5 h e (λ z. omega arith)
     map_value_lem (number b) h f e w = off_kind (number b) 5 h e (λ z. omega arith)
     map_value_lem (quoted_string b) h f e w = off_kind (quoted_string b) 5 h e (λ z. omega arith)
     map_value_lem (list_of vs cl) h f e w = off_kind (list_of vs cl) 5 h e (λ z. omega arith)
-    map_value_lem (map_of kvs cl) h f e w = wrote_as (map_lines o n kvs cl (full_map kvs cl h (not_flat f))) (w kvs cl h)
+    map_value_lem (map_of kvs cl) h f e w = put_as puts (map_lines o n kvs cl (full_map kvs cl h (not_flat f))) (w kvs cl h)
     map_value_lem (variant_of m vs cl) h f e w = off_kind (variant_of m vs cl) 5 h e (λ z. omega arith)
 
     pub variant_value : (v : TokenValue) → ValueAt s tb i v → flat_at s tb i ≡ false → (word tb i 0 ≡ 4 → ⊥) → (word tb i 0 ≡ 5 → ⊥) →
-        ((m : Slice) (vs : TokenTrees) (cl : List Slice) → ValueAt s tb i (variant_of m vs cl) → Wrote live out at (value o n (variant_of m vs cl)) r out') → Wrote live out at (value o n v) r out'
+        ((m : Slice) (vs : TokenTrees) (cl : List Slice) → ValueAt s tb i (variant_of m vs cl) → puts from (value o n (variant_of m vs cl)) to) → puts from (value o n v) to
     unfolding value_size
     variant_value (identifier b) h f d e w = no_leaf (identifier b) h refl f
     variant_value (number b) h f d e w = no_leaf (number b) h refl f
@@ -165,17 +164,17 @@ module _ (s tb : List ℕ) (i : ℕ) where
     -- ---- a variant's lines, and its sole list or map
 
     pub lines_value : (m : Slice) (vs : TokenTrees) (cl : List Slice) → ValueAt s tb i (variant_of m vs cl) → flat_at s tb i ≡ false → (is_empty cl && is_sole_container vs) ≡ false →
-        Wrote live out at (text_at s tb i ++ long_variant o n vs cl) r out' → Wrote live out at (value o n (variant_of m vs cl)) r out'
+        puts from (text_at s tb i ++ long_variant o n vs cl) to → puts from (value o n (variant_of m vs cl)) to
     lines_value m vs cl h f e w =
-        wrote_as
+        put_as puts
         (ap (λ (x : List ℕ). x ++ long_variant o n vs cl) (variant_text m vs cl h)
         ∙ variant_lines o n m vs cl (full_variant m vs cl h (not_flat f)) (not_line vs cl 6 (variant_inside s tb i m vs cl h) (value_kind s tb i (variant_of m vs cl) h) (λ z. omega arith) f) e)
         w
 
     pub shared_value : (m : Slice) (vs : TokenTrees) (cl : List Slice) (v : TokenValue) → ValueAt s tb i (variant_of m vs cl) → flat_at s tb i ≡ false → (is_empty cl && is_sole_container vs) ≡ true → shared_first o n vs ≡ shared o n v →
-        Wrote live out at (text_at s tb i ++ (codes "(" ++ shared o n v ++ codes ")")) r out' → Wrote live out at (value o n (variant_of m vs cl)) r out'
+        puts from (text_at s tb i ++ (codes "(" ++ shared o n v ++ codes ")")) to → puts from (value o n (variant_of m vs cl)) to
     shared_value m vs cl v h f e q w =
-        wrote_as
+        put_as puts
         (ap (λ (x : List ℕ). text_at s tb i ++ (codes "(" ++ x ++ codes ")")) (sym q)
         ∙ ap (λ (x : List ℕ). x ++ (codes "(" ++ shared_first o n vs ++ codes ")")) (variant_text m vs cl h)
         ∙ variant_shared o n m vs cl (full_variant m vs cl h (not_flat f)) (not_line vs cl 6 (variant_inside s tb i m vs cl h) (value_kind s tb i (variant_of m vs cl) h) (λ z. omega arith) f) e)
@@ -183,34 +182,34 @@ module _ (s tb : List ℕ) (i : ℕ) where
 
     -- ---- shared
 
-    pub blank_value : (v : TokenValue) → ValueAt s tb i v → is_container v ≡ true → word tb i 4 ≡ 1 → Wrote live out at (blank_at tb i) r out' → Wrote live out at (shared o n v) r out'
+    pub blank_value : (v : TokenValue) → ValueAt s tb i v → is_container v ≡ true → word tb i 4 ≡ 1 → puts from (blank_at tb i) to → puts from (shared o n v) to
     unfolding value_size
     blank_value (identifier b) h c e w = clash c refl
     blank_value (number b) h c e w = clash c refl
     blank_value (quoted_string b) h c e w = clash c refl
     blank_value (list_of vs cl) h c e w =
-        wrote_as (ap (λ (x : Bool). cond x (codes "[ ]") (codes "{ }")) (eq-eqb (word tb i 0) 4 (value_kind s tb i (list_of vs cl) h)) ∙ blank_list o n vs cl (sym (value_size_lem s tb i (list_of vs cl) h) ∙ e)) w
+        put_as puts (ap (λ (x : Bool). cond x (codes "[ ]") (codes "{ }")) (eq-eqb (word tb i 0) 4 (value_kind s tb i (list_of vs cl) h)) ∙ blank_list o n vs cl (sym (value_size_lem s tb i (list_of vs cl) h) ∙ e)) w
     blank_value (map_of kvs cl) h c e w =
         let k : word tb i 0 ≡ 5 = value_kind s tb i (map_of kvs cl) h in
-        wrote_as (ap (λ (x : Bool). cond x (codes "[ ]") (codes "{ }")) (ne_eqb (word tb i 0) 4 (λ z. omega arith)) ∙ blank_map o n kvs cl (sym (value_size_lem s tb i (map_of kvs cl) h) ∙ e)) w
+        put_as puts (ap (λ (x : Bool). cond x (codes "[ ]") (codes "{ }")) (ne_eqb (word tb i 0) 4 (λ z. omega arith)) ∙ blank_map o n kvs cl (sym (value_size_lem s tb i (map_of kvs cl) h) ∙ e)) w
     blank_value (variant_of m vs cl) h c e w = clash c refl
 
     pub list_shared : (v : TokenValue) → ValueAt s tb i v → (word tb i 4 ≡ 1 → ⊥) → word tb i 0 ≡ 4 →
-        ((vs : TokenTrees) (cl : List Slice) → ValueAt s tb i (list_of vs cl) → Wrote live out at (long_list o n vs cl) r out') → Wrote live out at (shared o n v) r out'
+        ((vs : TokenTrees) (cl : List Slice) → ValueAt s tb i (list_of vs cl) → puts from (long_list o n vs cl) to) → puts from (shared o n v) to
     list_shared (identifier b) h f e w = off_kind (identifier b) 4 h e (λ z. omega arith)
     list_shared (number b) h f e w = off_kind (number b) 4 h e (λ z. omega arith)
     list_shared (quoted_string b) h f e w = off_kind (quoted_string b) 4 h e (λ z. omega arith)
-    list_shared (list_of vs cl) h f e w = wrote_as (shared_list o n vs cl (full_list vs cl h f)) (w vs cl h)
+    list_shared (list_of vs cl) h f e w = put_as puts (shared_list o n vs cl (full_list vs cl h f)) (w vs cl h)
     list_shared (map_of kvs cl) h f e w = off_kind (map_of kvs cl) 4 h e (λ z. omega arith)
     list_shared (variant_of m vs cl) h f e w = off_kind (variant_of m vs cl) 4 h e (λ z. omega arith)
 
     pub map_shared : (v : TokenValue) → ValueAt s tb i v → is_container v ≡ true → (word tb i 4 ≡ 1 → ⊥) → (word tb i 0 ≡ 4 → ⊥) →
-        ((kvs : KeyValues) (cl : List Slice) → ValueAt s tb i (map_of kvs cl) → Wrote live out at (long_map o n kvs cl) r out') → Wrote live out at (shared o n v) r out'
+        ((kvs : KeyValues) (cl : List Slice) → ValueAt s tb i (map_of kvs cl) → puts from (long_map o n kvs cl) to) → puts from (shared o n v) to
     map_shared (identifier b) h c f e w = clash c refl
     map_shared (number b) h c f e w = clash c refl
     map_shared (quoted_string b) h c f e w = clash c refl
     map_shared (list_of vs cl) h c f e w = absurd (e (value_kind s tb i (list_of vs cl) h))
-    map_shared (map_of kvs cl) h c f e w = wrote_as (shared_map o n kvs cl (full_map kvs cl h f)) (w kvs cl h)
+    map_shared (map_of kvs cl) h c f e w = put_as puts (shared_map o n kvs cl (full_map kvs cl h f)) (w kvs cl h)
     map_shared (variant_of m vs cl) h c f e w = clash c refl
 
   pub container_map : (v : TokenValue) → ValueAt s tb i v → is_container v ≡ true → (word tb i 0 ≡ 4 → ⊥) → SomeMap s tb i
@@ -221,23 +220,19 @@ module _ (s tb : List ℕ) (i : ℕ) where
   container_map (map_of kvs cl) h c e = (kvs, cl, h)
   container_map (variant_of m vs cl) h c e = clash c refl
 
-  pub variant_within : (m : Slice) (vs : TokenTrees) (cl : List Slice) → ValueAt s tb i (variant_of m vs cl) → Within s tb i
-  unfolding ValueAt
-  variant_within m vs cl h = h.3
-
 -- the closing comments after a map's pairs
 pub paired_closed : (s tb : List ℕ) (end : ℕ) (o : Settings) (n j base : ℕ) (kvs : KeyValues) (cl : List Slice) → PairedAt s tb end base kvs cl → PairedAt s tb end j no_pairs cl →
-    {live : Bool} {out₀ out out' : List ℕ} {at₀ at at' : ℕ} → Wrote live out₀ at₀ (map_content o n true kvs) at out → Wrote live out at (closing_lines s tb o n (eqb j base) j (end - j)) at' out' →
-    Wrote live out₀ at₀ (map_content o n true kvs ++ closing o n (no_key_values kvs) cl) at' out'
-paired_closed s tb end o n j base kvs cl h d w v =
+    {A : Type 0} (puts : A → List ℕ → A → Type 0) → Appends puts → {from to to' : A} → puts from (map_content o n true kvs) to → puts to (closing_lines s tb o n (eqb j base) j (end - j)) to' →
+    puts from (map_content o n true kvs ++ closing o n (no_key_values kvs) cl) to'
+paired_closed s tb end o n j base kvs cl h d puts append {from} {to} {to'} w v =
     let z : end ≡ j + length cl = paired_end s tb end j cl d in
     let u : end - j ≡ length cl = omega arith in
-    wrote_as
+    put_as puts
     (ap (λ (x : List ℕ). map_content o n true kvs ++ x)
     (ap (closing_lines s tb o n (eqb j base) j) u
     ∙ closing_comments s tb o n j (eqb j base) cl (paired_closing s tb end j cl d)
     ∙ ap (λ (x : Bool). closing o n x cl) (paired_empty s tb end base j kvs cl h d)))
-    (wrote_then w v)
+    (append from to to' (map_content o n true kvs) _ w v)
 
 pub map_law : (o : Settings) (n : ℕ) (kvs : KeyValues) (cl : List Slice) →
     (123 ∷ []) ++ o.newline ++ (map_content o (n + 1) true kvs ++ closing o (n + 1) (no_key_values kvs) cl) ++ add_indent o n ++ (125 ∷ []) ≡ long_map o n kvs cl
@@ -246,10 +241,6 @@ map_law o n kvs cl =
     ∙ ap (λ (x : List ℕ). x ++ add_indent o n ++ (125 ∷ [])) (sym (append_assoc ((123 ∷ []) ++ o.newline) (map_content o (suc n) true kvs) (closing o (suc n) (no_key_values kvs) cl)))
 
 -- ---- numbers
-
-pub positive : (n : ℕ) → (n ≡ 0 → ⊥) → 0 < n
-positive zero h = absurd (h refl)
-positive (suc n) h = omega arith
 
 pub more_than_one : (i n : ℕ) → 1 ≤ n → (n ≡ 1 → ⊥) → i + 1 < i + n
 more_than_one i n h e = go (dec_le n 1)

@@ -14,13 +14,12 @@ use Rattle.eon_spec.specs.Layout.{Settings, is_empty, no_values, no_key_values, 
 use Rattle.eon_format.specs.Lines.{gap_at, lines, closing_lines}
 use Rattle.eon_laws.proofs.Facts.{clash}
 use Rattle.eon_format.proofs.Records.{lines_comments, closing_comments}
-use Rattle.eon_put.specs.Put.{Wrote}
-use Rattle.eon_put.proofs.Writing.{wrote_then, wrote_as, Going, going_from, going_step, going_end}
+use Rattle.eon_put.proofs.Going.{Going, Appends, put_as, going_from, going_step, going_end}
 use Rattle.eon_format.specs.Long.{pair_text, Found}
-use Rattle.eon_table.specs.Words.{more_at, AfterPrefix, Texts, word}
-use Rattle.eon_table.specs.TreeAt.{PairedAt, SomeTree, CommentsAt, TreeAt, InsideAt, kind_of, PairAt, SomePair, value_of}
+use Rattle.eon_table.specs.Words.{more_at, AfterPrefix, word}
+use Rattle.eon_table.specs.TreeAt.{PairedAt, SomeTree, CommentsAt, TreeAt, ValueAt, InsideAt, kind_of, PairAt, SomePair, value_of}
 use Rattle.eon_laws.proofs.Records.{tree_size, trees_size, pairs_size}
-use Rattle.eon_table.proofs.Walk.{comments_texts, tree_pos, value_kind, value_not, bare_value_lem, inside_next, inside_tree, inside_in_lem, inside_closing, inside_end, tree_not_closing, tree_head, tree_value, paired_first, paired_end, more_none, more_tree, no_more, one_more, paired_next}
+use Rattle.eon_table.proofs.Walk.{list_values, map_pairs, tree_pos, value_kind, value_not, bare_value_lem, inside_next, inside_tree, inside_in_lem, inside_closing, inside_end, tree_not_closing, tree_head, tree_value, paired_first, paired_end, more_none, more_tree, no_more, one_more, paired_next}
 
 module _ (s tb : List ℕ) where
   module _ (end i r : ℕ) where
@@ -38,14 +37,6 @@ module _ (s tb : List ℕ) where
 
 -- ---- a gap by the table
 
-pub gap_first : (o : Settings) (tb : List ℕ) (first : Bool) (i : ℕ) → first ≡ true → [] ≡ gap_at o tb first i
-gap_first o tb true i e = refl
-gap_first o tb false i e = clash e refl
-
-pub gap_lines : (o : Settings) (tb : List ℕ) (first : Bool) (i : ℕ) → first ≡ false → word tb i 0 ≡ 7 → o.newline ≡ gap_at o tb first i
-gap_lines o tb true i e f = clash refl e
-gap_lines o tb false i e f = rw (eq-eqb (word tb i 0) 7 f, gap_at)
-
 pub gap_none : (o : Settings) (tb : List ℕ) (first : Bool) (i : ℕ) → first ≡ false → (word tb i 0 ≡ 7 → ⊥) → [] ≡ gap_at o tb first i
 gap_none o tb true i e f = clash refl e
 gap_none o tb false i e f = rw (ne_eqb (word tb i 0) 7 f, gap_at)
@@ -54,28 +45,28 @@ gap_none o tb false i e f = rw (ne_eqb (word tb i 0) 7 f, gap_at)
 
 module _ (s tb : List ℕ) (end : ℕ) where
   -- what a walk through a container's values has done
-  pub record Through (live : Bool) (out₀ : List ℕ) (at₀ : ℕ) (total : List ℕ) (content : Bool → TokenTrees → List ℕ) (cl : List Slice) (base j at : ℕ) (out : List ℕ) : Type 0 where
+  pub record Through {A : Type 0} (puts : A → List ℕ → A → Type 0) (from : A) (total : List ℕ) (content : Bool → TokenTrees → List ℕ) (cl : List Slice) (base j : ℕ) (to : A) : Type 0 where
     pub ts : TokenTrees
     pub inside : InsideAt s tb end j ts cl
-    pub going : Going live out₀ at₀ total at out (content (eqb j base) ts)
+    pub going : Going puts from total to (content (eqb j base) ts)
 
-  module _ {live : Bool} {out₀ : List ℕ} {at₀ : ℕ} {total : List ℕ} {content : Bool → TokenTrees → List ℕ} {cl : List Slice} {base j at : ℕ} {out : List ℕ} where
-    pub through_tree : Through live out₀ at₀ total content cl base j at out → more_at tb end j ≡ true → SomeTree s tb end j
+  module _ {A : Type 0} (puts : A → List ℕ → A → Type 0) {from : A} {total : List ℕ} {content : Bool → TokenTrees → List ℕ} {cl : List Slice} {base j : ℕ} {to : A} where
+    pub through_tree : Through puts from total content cl base j to → more_at tb end j ≡ true → SomeTree s tb end j
     through_tree h m = go h.ts h.inside
       where
         go : (ts : TokenTrees) → InsideAt s tb end j ts cl → SomeTree s tb end j
         go no_trees a = clash m (more_none s tb end j cl a)
         go (t ∷ᵗ ts) a = (t, inside_tree s tb end j t ts cl a)
 
-    pub through_step : {at' : ℕ} {out' : List ℕ} (j' : ℕ) (body : Bool → TokenTree → List ℕ) →
+    pub through_step : {to' : A} (append : Appends puts) (j' : ℕ) (body : Bool → TokenTree → List ℕ) →
         ((b : Bool) (t : TokenTree) (ts : TokenTrees) → content b (t ∷ᵗ ts) ≡ body b t ++ content false ts) →
-        Through live out₀ at₀ total content cl base j at out → more_at tb end j ≡ true → base ≤ j →
-        ((t : TokenTree) → TreeAt s tb end j t → Wrote live out at (body (eqb j base) t) at' out') →
+        Through puts from total content cl base j to → more_at tb end j ≡ true → base ≤ j →
+        ((t : TokenTree) → TreeAt s tb end j t → puts to (body (eqb j base) t) to') →
         ((t : TokenTree) → TreeAt s tb end j t → j' ≡ j + tree_size t) →
-        Through live out₀ at₀ total content cl base j' at' out'
-    through_step {at'} {out'} j' body law h m l w e = go h.ts h.inside h.going
+        Through puts from total content cl base j' to'
+    through_step {to'} append j' body law h m l w e = go h.ts h.inside h.going
       where
-        go : (ts : TokenTrees) → InsideAt s tb end j ts cl → Going live out₀ at₀ total at out (content (eqb j base) ts) → Through live out₀ at₀ total content cl base j' at' out'
+        go : (ts : TokenTrees) → InsideAt s tb end j ts cl → Going puts from total to (content (eqb j base) ts) → Through puts from total content cl base j' to'
         go no_trees a g = clash m (more_none s tb end j cl a)
         go (t ∷ᵗ ts) a g =
             let k = inside_tree s tb end j t ts cl a in
@@ -84,30 +75,30 @@ module _ (s tb : List ℕ) (end : ℕ) where
             record {
               ts = ts;
               inside = subst (λ (x : ℕ). InsideAt s tb end x ts cl) (sym q) (inside_next s tb end j t ts cl a);
-              going = going_step g (law (eqb j base) t ts ∙ ap (λ (x : Bool). body (eqb j base) t ++ content x ts) (sym (ne_eqb j' base (λ z. omega arith)))) (w t k);
+              going = going_step puts append g (law (eqb j base) t ts ∙ ap (λ (x : Bool). body (eqb j base) t ++ content x ts) (sym (ne_eqb j' base (λ z. omega arith)))) (w t k);
             }
 
-    pub through_done : Through live out₀ at₀ total content cl base j at out → more_at tb end j ≡ false → InsideAt s tb end j no_trees cl
+    pub through_done : Through puts from total content cl base j to → more_at tb end j ≡ false → InsideAt s tb end j no_trees cl
     through_done h m = go h.ts h.inside
       where
         go : (ts : TokenTrees) → InsideAt s tb end j ts cl → InsideAt s tb end j no_trees cl
         go no_trees a = a
         go (t ∷ᵗ ts) a = clash (more_tree s tb end j t (inside_tree s tb end j t ts cl a) (inside_in_lem s tb end j t ts cl a)) m
 
-    pub through_end : Through live out₀ at₀ total content cl base j at out → more_at tb end j ≡ false → ((b : Bool) → content b no_trees ≡ []) → Wrote live out₀ at₀ total at out
+    pub through_end : Through puts from total content cl base j to → more_at tb end j ≡ false → ((b : Bool) → content b no_trees ≡ []) → puts from total to
     through_end h m e = go h.ts h.inside h.going
       where
-        go : (ts : TokenTrees) → InsideAt s tb end j ts cl → Going live out₀ at₀ total at out (content (eqb j base) ts) → Wrote live out₀ at₀ total at out
-        go no_trees a g = going_end g (e (eqb j base))
+        go : (ts : TokenTrees) → InsideAt s tb end j ts cl → Going puts from total to (content (eqb j base) ts) → puts from total to
+        go no_trees a g = going_end puts g (e (eqb j base))
         go (t ∷ᵗ ts) a g = clash (more_tree s tb end j t (inside_tree s tb end j t ts cl a) (inside_in_lem s tb end j t ts cl a)) m
 
-  pub through_start : {live : Bool} {out₀ : List ℕ} {at₀ : ℕ} {b : List ℕ} {at : ℕ} {out : List ℕ} (content : Bool → TokenTrees → List ℕ) (vs : TokenTrees) (cl : List Slice) (base : ℕ) →
-      InsideAt s tb end base vs cl → Wrote live out₀ at₀ b at out → Through live out₀ at₀ (b ++ content true vs) content cl base base at out
-  through_start {live} {out₀} {at₀} {b} {at} {out} content vs cl base h w =
+  pub through_start : {A : Type 0} (puts : A → List ℕ → A → Type 0) {from : A} {b : List ℕ} {to : A} (content : Bool → TokenTrees → List ℕ) (vs : TokenTrees) (cl : List Slice) (base : ℕ) →
+      InsideAt s tb end base vs cl → puts from b to → Through puts from (b ++ content true vs) content cl base base to
+  through_start puts {from} {b} {to} content vs cl base h w =
       record {
         ts = vs;
         inside = h;
-        going = subst (λ (x : Bool). Going live out₀ at₀ (b ++ content true vs) at out (content x vs)) (sym (eq-eqb base base refl)) (going_from w);
+        going = subst (λ (x : Bool). Going puts from (b ++ content true vs) to (content x vs)) (sym (eq-eqb base base refl)) (going_from puts w);
       }
 
   pub through_empty : (base j : ℕ) (vs : TokenTrees) (cl : List Slice) → InsideAt s tb end base vs cl → InsideAt s tb end j no_trees cl → eqb j base ≡ no_values vs
@@ -123,23 +114,20 @@ module _ (s tb : List ℕ) (end : ℕ) where
       ne_eqb j base (λ z. omega arith)
 
   -- the closing comments, the indentation and the bracket after the items
-  pub finish : {live : Bool} {out₀ : List ℕ} {at₀ : ℕ} {x : List ℕ} {at at' : ℕ} {out out' : List ℕ} (o : Settings) (n j b : ℕ) (empty e : Bool) (cl : List Slice) →
-      CommentsAt s tb 9 j cl → end ≡ j + length cl → empty ≡ e → Wrote live out₀ at₀ x at out →
-      Wrote live out at (closing_lines s tb o (n + 1) empty j (end - j) ++ add_indent o n ++ (b ∷ [])) at' out' →
-      Wrote live out₀ at₀ (x ++ closing o (suc n) e cl ++ add_indent o n ++ (b ∷ [])) at' out'
-  finish {x = x} o n j b empty e cl h q f w v =
+  pub finish : {A : Type 0} (puts : A → List ℕ → A → Type 0) (append : Appends puts) {from to to' : A} {x : List ℕ} (o : Settings) (n j b : ℕ) (empty e : Bool) (cl : List Slice) →
+      CommentsAt s tb 9 j cl → end ≡ j + length cl → empty ≡ e → puts from x to →
+      puts to (closing_lines s tb o (n + 1) empty j (end - j) ++ add_indent o n ++ (b ∷ [])) to' →
+      puts from (x ++ closing o (suc n) e cl ++ add_indent o n ++ (b ∷ [])) to'
+  finish puts append {from} {to} {to'} {x} o n j b empty e cl h q f w v =
       let d : end - j ≡ length cl = omega arith in
-      wrote_as
+      put_as puts
       (ap (λ (l : List ℕ). x ++ (l ++ add_indent o n ++ (b ∷ [])))
       (ap (closing_lines s tb o (n + 1) empty j) d
       ∙ closing_comments s tb o (n + 1) j empty cl h
       ∙ ap (λ (m : ℕ). closing o m empty cl) (add-one n)
       ∙ ap (λ (m : Bool). closing o (suc n) m cl) f)
       ∙ simp append_assoc)
-      (wrote_then w v)
-
-  pub inside_texts : (j : ℕ) (cl : List Slice) → InsideAt s tb end j no_trees cl → Texts s tb j end
-  inside_texts j cl h = subst (λ (k : ℕ). Texts s tb j k) (sym (inside_end s tb end j cl h)) (comments_texts s tb 9 j cl (inside_closing s tb end j cl h))
+      (append from to to' x _ w v)
 
 -- ---- a variant's sole list or map
 
@@ -238,28 +226,28 @@ ends_body o b t ts = refl
 
 module _ (s tb : List ℕ) (end : ℕ) where
   -- what a walk through a map's pairs has done
-  pub record Paired (live : Bool) (out₀ : List ℕ) (at₀ : ℕ) (total : List ℕ) (content : Bool → KeyValues → List ℕ) (cl : List Slice) (base j at : ℕ) (out : List ℕ) : Type 0 where
+  pub record Paired {A : Type 0} (puts : A → List ℕ → A → Type 0) (from : A) (total : List ℕ) (content : Bool → KeyValues → List ℕ) (cl : List Slice) (base j : ℕ) (to : A) : Type 0 where
     pub ts : KeyValues
     pub inside : PairedAt s tb end j ts cl
-    pub going : Going live out₀ at₀ total at out (content (eqb j base) ts)
+    pub going : Going puts from total to (content (eqb j base) ts)
 
-  module _ {live : Bool} {out₀ : List ℕ} {at₀ : ℕ} {total : List ℕ} {content : Bool → KeyValues → List ℕ} {cl : List Slice} {base j at : ℕ} {out : List ℕ} where
-    pub paired_pair : Paired live out₀ at₀ total content cl base j at out → more_at tb end j ≡ true → SomePair s tb end j
+  module _ {A : Type 0} (puts : A → List ℕ → A → Type 0) {from : A} {total : List ℕ} {content : Bool → KeyValues → List ℕ} {cl : List Slice} {base j : ℕ} {to : A} where
+    pub paired_pair : Paired puts from total content cl base j to → more_at tb end j ≡ true → SomePair s tb end j
     paired_pair h m = go h.ts h.inside
       where
         go : (ts : KeyValues) → PairedAt s tb end j ts cl → SomePair s tb end j
         go no_pairs a = clash m (no_more s tb end j cl a)
         go (pair k v ts) a = (k, v, paired_first s tb end j k v ts cl a)
 
-    pub paired_step : {at' : ℕ} {out' : List ℕ} (j' : ℕ) (body : Bool → TokenTree → TokenTree → List ℕ) →
+    pub paired_step : {to' : A} (append : Appends puts) (j' : ℕ) (body : Bool → TokenTree → TokenTree → List ℕ) →
         ((b : Bool) (k v : TokenTree) (ts : KeyValues) → content b (pair k v ts) ≡ body b k v ++ content false ts) →
-        Paired live out₀ at₀ total content cl base j at out → more_at tb end j ≡ true → base ≤ j →
-        ((k v : TokenTree) → PairAt s tb end j k v → Wrote live out at (body (eqb j base) k v) at' out') →
+        Paired puts from total content cl base j to → more_at tb end j ≡ true → base ≤ j →
+        ((k v : TokenTree) → PairAt s tb end j k v → puts to (body (eqb j base) k v) to') →
         ((k v : TokenTree) → PairAt s tb end j k v → j' ≡ j + tree_size k + tree_size v) →
-        Paired live out₀ at₀ total content cl base j' at' out'
-    paired_step {at'} {out'} j' body law h m l w e = go h.ts h.inside h.going
+        Paired puts from total content cl base j' to'
+    paired_step {to'} append j' body law h m l w e = go h.ts h.inside h.going
       where
-        go : (ts : KeyValues) → PairedAt s tb end j ts cl → Going live out₀ at₀ total at out (content (eqb j base) ts) → Paired live out₀ at₀ total content cl base j' at' out'
+        go : (ts : KeyValues) → PairedAt s tb end j ts cl → Going puts from total to (content (eqb j base) ts) → Paired puts from total content cl base j' to'
         go no_pairs a g = clash m (no_more s tb end j cl a)
         go (pair x y ts) a g =
             let k = paired_first s tb end j x y ts cl a in
@@ -268,30 +256,30 @@ module _ (s tb : List ℕ) (end : ℕ) where
             record {
               ts = ts;
               inside = subst (λ (z : ℕ). PairedAt s tb end z ts cl) (sym q) (paired_next s tb end j x y ts cl a);
-              going = going_step g (law (eqb j base) x y ts ∙ ap (λ (z : Bool). body (eqb j base) x y ++ content z ts) (sym (ne_eqb j' base (λ z. omega arith)))) (w x y k);
+              going = going_step puts append g (law (eqb j base) x y ts ∙ ap (λ (z : Bool). body (eqb j base) x y ++ content z ts) (sym (ne_eqb j' base (λ z. omega arith)))) (w x y k);
             }
 
-    pub paired_done : Paired live out₀ at₀ total content cl base j at out → more_at tb end j ≡ false → PairedAt s tb end j no_pairs cl
+    pub paired_done : Paired puts from total content cl base j to → more_at tb end j ≡ false → PairedAt s tb end j no_pairs cl
     paired_done h m = go h.ts h.inside
       where
         go : (ts : KeyValues) → PairedAt s tb end j ts cl → PairedAt s tb end j no_pairs cl
         go no_pairs a = a
         go (pair x y ts) a = clash (one_more s tb end j x y ts cl a) m
 
-    pub paired_all : Paired live out₀ at₀ total content cl base j at out → more_at tb end j ≡ false → ((b : Bool) → content b no_pairs ≡ []) → Wrote live out₀ at₀ total at out
+    pub paired_all : Paired puts from total content cl base j to → more_at tb end j ≡ false → ((b : Bool) → content b no_pairs ≡ []) → puts from total to
     paired_all h m e = go h.ts h.inside h.going
       where
-        go : (ts : KeyValues) → PairedAt s tb end j ts cl → Going live out₀ at₀ total at out (content (eqb j base) ts) → Wrote live out₀ at₀ total at out
-        go no_pairs a g = going_end g (e (eqb j base))
+        go : (ts : KeyValues) → PairedAt s tb end j ts cl → Going puts from total to (content (eqb j base) ts) → puts from total to
+        go no_pairs a g = going_end puts g (e (eqb j base))
         go (pair x y ts) a g = clash (one_more s tb end j x y ts cl a) m
 
-  pub paired_start : {live : Bool} {out₀ : List ℕ} {at₀ : ℕ} {b : List ℕ} {at : ℕ} {out : List ℕ} (content : Bool → KeyValues → List ℕ) (vs : KeyValues) (cl : List Slice) (base : ℕ) →
-      PairedAt s tb end base vs cl → Wrote live out₀ at₀ b at out → Paired live out₀ at₀ (b ++ content true vs) content cl base base at out
-  paired_start {live} {out₀} {at₀} {b} {at} {out} content vs cl base h w =
+  pub paired_start : {A : Type 0} (puts : A → List ℕ → A → Type 0) {from : A} {b : List ℕ} {to : A} (content : Bool → KeyValues → List ℕ) (vs : KeyValues) (cl : List Slice) (base : ℕ) →
+      PairedAt s tb end base vs cl → puts from b to → Paired puts from (b ++ content true vs) content cl base base to
+  paired_start puts {from} {b} {to} content vs cl base h w =
       record {
         ts = vs;
         inside = h;
-        going = subst (λ (x : Bool). Going live out₀ at₀ (b ++ content true vs) at out (content x vs)) (sym (eq-eqb base base refl)) (going_from w);
+        going = subst (λ (x : Bool). Going puts from (b ++ content true vs) to (content x vs)) (sym (eq-eqb base base refl)) (going_from puts w);
       }
 
   pub paired_empty : (base j : ℕ) (vs : KeyValues) (cl : List Slice) → PairedAt s tb end base vs cl → PairedAt s tb end j no_pairs cl → eqb j base ≡ no_key_values vs
@@ -327,3 +315,15 @@ pub map_body : (o : Settings) (n : ℕ) (b : Bool) (k v : TokenTree) (ts : KeyVa
 unfolding map_content
 map_body o n b k v ts =
     regroup (gap o b k) (indented_comments o n (prefix_of k)) (indented_comments o n (prefix_of v)) (add_indent o n) (bare_value o n k) o.key_value_separator (bare_value o n v) (suffix_comment o (suffix_of v)) o.newline (map_content o n false ts)
+
+-- ---- a container's records end where `behind` leads
+
+module _ (s tb : List ℕ) (i end : ℕ) (e : end ≡ i + word tb i 4) where
+  pub variant_to : (vs : TokenTrees) (cl : List Slice) → InsideAt s tb (i + word tb i 4) (i + 1) vs cl → InsideAt s tb end (i + 1) vs cl
+  variant_to vs cl h = subst (λ (x : ℕ). InsideAt s tb x (i + 1) vs cl) (sym e) h
+
+  pub list_to : (vs : TokenTrees) (cl : List Slice) → ValueAt s tb i (list_of vs cl) → InsideAt s tb end (i + 1) vs cl
+  list_to vs cl h = variant_to vs cl (list_values s tb i (word tb i 4) refl vs cl h)
+
+  pub map_to : (kvs : KeyValues) (cl : List Slice) → ValueAt s tb i (map_of kvs cl) → PairedAt s tb end (i + 1) kvs cl
+  map_to kvs cl h = subst (λ (x : ℕ). PairedAt s tb x (i + 1) kvs cl) (sym e) (map_pairs s tb i (word tb i 4) refl kvs cl h)

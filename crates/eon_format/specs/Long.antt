@@ -1,5 +1,5 @@
 -- The forms on several lines, each under a name.
-use Rattle.std.specs.Prelude.{ℕ, suc, ◌≤◌, ◌<◌, ◌≡◌, true, false, ◌&&◌, cond, List, ◌++◌, eqb}
+use Rattle.std.specs.Prelude.{ℕ, suc, ◌≤◌, ◌≡◌, true, false, ◌&&◌, cond, List, ◌++◌, eqb, Option, None, Some}
 use Rattle.eon_spec.specs.Base.{codes}
 use Rattle.eon_spec.specs.Tree.{Slice, TokenTree, TokenValue, TokenTrees, KeyValues}
 use Rattle.eon_spec.specs.Layout.{Settings, add_indent, no_values, no_key_values, on_lines, line_ends, list_content, map_content, indented_comments, suffix_comment, prefix_of, suffix_of, bare_value, shared, shared_first, is_empty, is_container, is_sole_container}
@@ -36,9 +36,9 @@ module _ (s tb : List ℕ) where
     pub only : (is_empty cl && is_sole_container vs) ≡ true
     pub shares : (o : Settings) (n : ℕ) → shared_first o n vs ≡ shared o n val
 
-  pub record SoleAt (i : ℕ) (vs : TokenTrees) (cl : List Slice) (r : ℕ) : Type 0 where
-    pub lacks : r ≡ 0 → (is_empty cl && is_sole_container vs) ≡ false
-    pub found : 0 < r → Found i vs cl r
+  abbrev pub SoleAt : ℕ → TokenTrees → List Slice → Option ℕ → Type 0
+  SoleAt i vs cl None = (is_empty cl && is_sole_container vs) ≡ false
+  SoleAt i vs cl (Some r) = Found i vs cl r
 
   abbrev pub SomeContainer : ℕ → Type 0
   SomeContainer i = (v : TokenValue) × ValueAt s tb i v × (is_container v ≡ true)

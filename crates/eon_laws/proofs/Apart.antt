@@ -13,7 +13,8 @@ use Rattle.eon_spec.specs.Base.{within}
 use Rattle.eon_spec.specs.Utf8.{Character, code_point}
 use Rattle.eon_spec.specs.Regex.{Item, ◌to◌, only, in_item, in_class, Regex, never, empty, one_of, none_of, ◌then◌, ◌or◌, many, nullable, deriv, longest}
 use Rattle.eon_laws.proofs.Regex.{Matches, longest_matches, longest_ends, deriv_complete, nullable_complete, derivs, Ends}
-use Rattle.eon_spec.specs.Token.{better, TokenKind, Rule, ◌is◌, longest_rule}
+use Rattle.eon_spec.specs.declared.token_kind.TokenKind.{TokenKind}
+use Rattle.eon_spec.specs.Token.{better, Rule, ◌is◌, longest_rule}
 
 -- no item of the class lies in lo .. hi
 abbrev apart_item : ℕ → ℕ → Item → Bool

@@ -1,6 +1,6 @@
+use Rattle.std.specs.Prelude.{Option, None, Some}
 -- How many bytes of a text the tokens of a tree take, at least.
 use mathlib.Core.List.{List, [], ◌∷◌, ◌++◌}
-use mathlib.Core.Option.{Option, none, some}
 use mathlib.Core.Path.{◌≡◌}
 use Prim.Native.Nat.{ℕ, suc, ◌+◌, ◌≤◌}
 use native.Mathlib.Omega.{arith}
@@ -29,8 +29,8 @@ comments_bytes [] = 0
 comments_bytes (c ∷ cs) = held c.bytes + comments_bytes cs
 
 unfoldable pub suffix_bytes : Option Slice → ℕ
-suffix_bytes none = 0
-suffix_bytes (some c) = held c.bytes
+suffix_bytes None = 0
+suffix_bytes (Some c) = held c.bytes
 
 -- the two brackets of a list or map
 abbrev pub brackets : TokenValue → ℕ
@@ -83,8 +83,8 @@ comments_some (c ∷ cs) = omega (arith, held_some c.bytes, comments_some cs)
 
 suffix_some : (x : Option Slice) → suffix_size x ≤ suffix_bytes x
 unfolding suffix_bytes
-suffix_some none = omega arith
-suffix_some (some c) = held_some c.bytes
+suffix_some None = omega arith
+suffix_some (Some c) = held_some c.bytes
 
 leaf_some : (b : List ℕ) → (1 ≤ 0 + held b) × (1 ≤ suc (held b))
 leaf_some b = let h = held_some b in (omega arith, omega arith)

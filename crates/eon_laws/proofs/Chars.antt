@@ -1,7 +1,7 @@
+use Rattle.std.specs.Prelude.{Option, None, Some}
 -- The characters of a text, one by one.
 use mathlib.Core.Path.{◌≡◌, refl, sym, ◌∙◌, ap}
 use mathlib.Core.Bool.{Bool, true, false}
-use mathlib.Core.Option.{Option, none, some}
 use mathlib.Core.List.{List, [], ◌∷◌}
 use Prim.Native.Nat.{ℕ, zero, suc}
 use native.Mathlib.Omega.{arith}
@@ -26,10 +26,10 @@ fits_take (r ∷ rs) [] e = clash e refl
 fits_take (r ∷ rs) (b ∷ s) e = rw (and_left (in_range r b) (fits rs s) e) (fits_take rs s (and_right (in_range r b) (fits rs s) e))
 
 len_if_take : (o : Option (List Range)) (s : List ℕ) (k : ℕ) → len_if o s ≡ suc k → len_if o (take k s) ≡ suc k
-len_if_take none s k e = e
-len_if_take (some rs) s k e = go (fits rs s) refl e
+len_if_take None s k e = e
+len_if_take (Some rs) s k e = go (fits rs s) refl e
   where
-    go : (x : Bool) → fits rs s ≡ x → len_if (some rs) s ≡ suc k → len_if (some rs) (take k s) ≡ suc k
+    go : (x : Bool) → fits rs s ≡ x → len_if (Some rs) s ≡ suc k → len_if (Some rs) (take k s) ≡ suc k
     go true p e =
         let z : suc (length rs) ≡ suc k = rw (p, len_if) at e in
         let y : length rs ≡ k = omega arith in

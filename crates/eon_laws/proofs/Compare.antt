@@ -1,9 +1,9 @@
+use Rattle.std.specs.Prelude.{Option, None, Some}
 -- The comparison of records is an equivalence, and says whether two trees are equal, spans aside: each comment, leaf and name by its bytes.
 -- Assumes nothing.
 use mathlib.Core.Path.{◌≡◌, refl, sym, ◌∙◌, ap, ap₂}
 use mathlib.Core.Bool.{Bool, true, false, ◌&&◌}
 use mathlib.Core.List.{List, [], ◌∷◌, ◌++◌, append-nil, append_assoc}
-use mathlib.Core.Option.{Option, none, some}
 use Prim.Native.Nat.{ℕ, suc, ◌-◌, ◌<◌}
 use native.Mathlib.Omega.{arith}
 use lib.ListN.{length, take, drop}
@@ -178,8 +178,8 @@ texts_of s [] = []
 texts_of s (c ∷ cs) = part_of s c.span.start c.span.end ∷ texts_of s cs
 
 abbrev pub text_of : List ℕ → Option Slice → Option (List ℕ)
-text_of s none = none
-text_of s (some c) = some (part_of s c.span.start c.span.end)
+text_of s None = None
+text_of s (Some c) = Some (part_of s c.span.start c.span.end)
 
 unfoldable mutual
   pub image_of : List ℕ → TokenTree → Image
@@ -211,8 +211,8 @@ comment_keys k [] = []
 comment_keys k (b ∷ bs) = leaf_key k b ∷ comment_keys k bs
 
 abbrev suffix_keys : Option (List ℕ) → List Key
-suffix_keys none = []
-suffix_keys (some b) = leaf_key 8 b ∷ []
+suffix_keys None = []
+suffix_keys (Some b) = leaf_key 8 b ∷ []
 
 abbrev around_keys : ℕ → List ℕ → List Key → List Key
 around_keys k b inside = record { kind = k; size = suc (length inside); text = b } ∷ inside
@@ -243,8 +243,8 @@ module _ (s : List ℕ) where
   comment_keys_lem k e (c ∷ cs) = ap₂ (λ (b : List ℕ) (ks : List Key). leaf_key k b ∷ ks) (rw e) (comment_keys_lem k e cs)
 
   suffix_keys_lem : (x : Option Slice) → keys_of s (suffix x) ≡ suffix_keys (text_of s x)
-  suffix_keys_lem none = refl
-  suffix_keys_lem (some c) = refl
+  suffix_keys_lem None = refl
+  suffix_keys_lem (Some c) = refl
 
   around_keys_lem : (k : ℕ) (sp : Span) (e : ℕ) (inside : List Record) (ks : List Key) → keys_of s inside ≡ ks
       → keys_of s (around k sp e inside) ≡ around_keys k (record_text s (record_at k sp e 0)) ks
@@ -357,12 +357,12 @@ comments_inj k (x ∷ p) (y ∷ q) a b g h e =
     (ap₂ (λ (c : List ℕ) (cs : List (List ℕ)). c ∷ cs) (ap (λ (z : Key). z.text) (cons_head e)) r.0, r.1)
 
 suffix_inj : (x y : Option (List ℕ)) (a b : List Key) → NotFirst 8 a → NotFirst 8 b → suffix_keys x ++ a ≡ suffix_keys y ++ b → (x ≡ y) × (a ≡ b)
-suffix_inj none none a b g h e = (refl, e)
-suffix_inj none (some y) [] b g h e = no_cons e
-suffix_inj none (some y) (x ∷ a) b g h e = absurd (g (ap (λ (z : Key). z.kind) (cons_head e)))
-suffix_inj (some x) none a [] g h e = no_cons (sym e)
-suffix_inj (some x) none a (y ∷ b) g h e = absurd (h (sym (ap (λ (z : Key). z.kind) (cons_head e))))
-suffix_inj (some x) (some y) a b g h e = (ap some (ap (λ (z : Key). z.text) (cons_head e)), cons_tail e)
+suffix_inj None None a b g h e = (refl, e)
+suffix_inj None (Some y) [] b g h e = no_cons e
+suffix_inj None (Some y) (x ∷ a) b g h e = absurd (g (ap (λ (z : Key). z.kind) (cons_head e)))
+suffix_inj (Some x) None a [] g h e = no_cons (sym e)
+suffix_inj (Some x) None a (y ∷ b) g h e = absurd (h (sym (ap (λ (z : Key). z.kind) (cons_head e))))
+suffix_inj (Some x) (Some y) a b g h e = (ap Some (ap (λ (z : Key). z.text) (cons_head e)), cons_tail e)
 
 -- closing comments are no value
 closing_no : {A : Type 0} (cl : List (List ℕ)) (ks : List Key) → Starts 8 ks → comment_keys 9 cl ≡ ks → A

@@ -9,7 +9,9 @@ use lib.Dec.{ltb}
 use Rattle.eon_laws.proofs.Facts.{clash, lt_of, le_of_not}
 use Rattle.eon_spec.specs.Utf8.{Character}
 use Rattle.eon_spec.specs.Regex.{Regex, is_never, nullable, deriv, longest}
-use Rattle.eon_spec.specs.Token.{better, TokenKind, Invalid, is_kind, Rule, ◌is◌, longest_rule}
+use Rattle.eon_spec.specs.declared.token_kind.TokenKind.{TokenKind}
+use Rattle.eon_spec.specs.declared.token_kind.TokenKind.TheVariants.{Invalid}
+use Rattle.eon_spec.specs.Token.{better, is_kind, Rule, ◌is◌, longest_rule}
 use Rattle.eon_laws.proofs.Apart.{}
 
 longest_le : (r : Regex) (cs : List Character) → longest r cs ≤ length cs

@@ -1,8 +1,8 @@
+use Rattle.std.specs.Prelude.{Option, None, Some}
 -- Encoding undoes decoding: a character is the bytes of its code point, and a well-formed text those of its code points.
 use mathlib.Core.Path.{◌≡◌, refl, sym, ◌∙◌, ap}
 use mathlib.Core.Logic.{◌⊎◌, inl, inr}
 use mathlib.Core.Bool.{Bool, true, false}
-use mathlib.Core.Option.{Option, none, some}
 use mathlib.Core.List.{List, [], ◌∷◌, ◌++◌, map, append_assoc}
 use Prim.Native.Nat.{ℕ, suc, ◌+◌, ◌-◌, ◌*◌, ◌/◌, ◌%◌, ◌≤◌, ◌<◌}
 use native.Mathlib.Omega.{arith}
@@ -127,13 +127,13 @@ unfolding char_len Encodes
 char_encoded [] h = absurd h
 char_encoded (b ∷ s) e = go (row_of table37 b) refl e
   where
-    fitting : (m : List Range) (x : Bool) → row_of table37 b ≡ some m → fits m s ≡ x → len_if (some m) s ≡ suc (length s) → encode_char (code_point (b ∷ s)) ≡ b ∷ s
+    fitting : (m : List Range) (x : Bool) → row_of table37 b ≡ Some m → fits m s ≡ x → len_if (Some m) s ≡ suc (length s) → encode_char (code_point (b ∷ s)) ≡ b ∷ s
     fitting m true p q e = let y : suc (length m) ≡ suc (length s) = rw (q, len_if) at e in by_row b s m (row_in table37 b m p) q (omega arith)
     fitting m false p q e = absurd (let y : 0 ≡ suc (length s) = rw (q, len_if) at e in omega arith)
 
     go : (o : Option (List Range)) → row_of table37 b ≡ o → len_if o s ≡ suc (length s) → encode_char (code_point (b ∷ s)) ≡ b ∷ s
-    go none p e = absurd (omega arith)
-    go (some m) p e = fitting m (fits m s) p refl e
+    go None p e = absurd (omega arith)
+    go (Some m) p e = fitting m (fits m s) p refl e
 
 chars_encoded : (cs : List Character) → AllChars cs → encode (map code_point cs) ≡ joined cs
 unfolding encode

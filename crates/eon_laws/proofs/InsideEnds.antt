@@ -3,7 +3,7 @@ use mathlib.Core.Path.{◌≡◌, refl}
 use mathlib.Core.Bool.{Bool, true, false}
 use Prim.Native.Nat.{ℕ, zero, suc}
 use lib.ListN.{length}
-use Rattle.eon_spec.specs.Token.{Colon}
+use Rattle.eon_spec.specs.declared.token_kind.TokenKind.TheVariants.{Colon}
 use Rattle.eon_spec.specs.Parse.{Cursor, rest, Read, read, refused, Reader, bind, list_contents, map_contents, list_inside, map_inside, comments_at, consume_token, at_end, after_comma}
 
 abbrev pub Ends : {A : Type 0} → Read A → Type 0

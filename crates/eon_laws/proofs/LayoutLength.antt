@@ -1,9 +1,9 @@
+use Rattle.std.specs.Prelude.{Option, None, Some}
 -- The layout of a text of n bytes, with the default settings, has at most 68 * (n + 1) bytes: each token pays for its own bytes and 67
 -- more, which are its indentation (at most 65), the end of its line, and a blank line. It has a byte, so that 68 for each byte suffice.
 use mathlib.Core.Path.{◌≡◌, refl}
 use mathlib.Core.Bool.{Bool, true, false, ◌&&◌}
 use mathlib.Core.List.{List, [], ◌∷◌, ◌++◌}
-use mathlib.Core.Option.{Option, none, some}
 use Prim.Native.Nat.{ℕ, zero, suc, ◌+◌, ◌*◌, ◌≤◌}
 use native.Mathlib.Omega.{arith}
 use lib.ListN.{length, length-append}
@@ -45,8 +45,8 @@ module _ (o : Settings) (tab : length o.indentation ≡ 1) (line : length o.newl
   -- a suffix comment
   suffix_le : (x : Option Slice) → length (suffix_comment o x) ≤ 68 * suffix_bytes x
   unfolding suffix_bytes
-  suffix_le none = omega arith
-  suffix_le (some c) = omega (arith, held_charge c.bytes)
+  suffix_le None = omega arith
+  suffix_le (Some c) = omega (arith, held_charge c.bytes)
 
   -- a blank line, which a comment pays for
   gap_le : (first : Bool) (t : TokenTree) → length (gap o first t) ≤ length (prefix_of t)

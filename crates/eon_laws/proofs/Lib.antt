@@ -24,3 +24,4 @@ pub mod Encode
 pub mod Shown
 pub mod Compare
 pub mod Kept
+pub mod Contains

@@ -8,7 +8,8 @@ use lib.ListN.{length, take, drop, length-append}
 use lib.Seq.{take-add}
 use lib.Dec.{eqb}
 use Rattle.eon_spec.specs.Utf8.{Character, Boundary, chars, joined, code_point, is_utf8, well_formed_len}
-use Rattle.eon_spec.specs.Token.{TokenKind, is_space, longest_rule, rules, Token, placed, tokens, tokens_from}
+use Rattle.eon_spec.specs.declared.token_kind.TokenKind.{TokenKind}
+use Rattle.eon_spec.specs.Token.{is_space, longest_rule, rules, Token, placed, tokens, tokens_from}
 use Rattle.eon_spec.specs.Tree.{Span}
 use Rattle.eon_spec.specs.Parse.{span_of}
 use Rattle.eon_laws.proofs.Facts.{eq_of}

@@ -1,7 +1,7 @@
+use Rattle.std.specs.Prelude.{Option, None, Some}
 -- How many words and records there are.
 use mathlib.Core.Path.{◌≡◌, refl, ap}
 use mathlib.Core.List.{List, [], ◌∷◌}
-use mathlib.Core.Option.{Option, none, some}
 use Prim.Native.Nat.{ℕ, suc, ◌+◌, ◌*◌}
 use native.Mathlib.Omega.{arith}
 use lib.ListN.{length, length-append}
@@ -13,8 +13,8 @@ words_length [] = refl
 words_length (r ∷ rs) = rw (words_length rs) (omega arith)
 
 abbrev pub suffix_size : Option Slice → ℕ
-suffix_size none = 0
-suffix_size (some c) = 1
+suffix_size None = 0
+suffix_size (Some c) = 1
 
 -- a tree has as many records as the trees in it and its comments
 unfoldable mutual
@@ -42,8 +42,8 @@ comments_length k [] = refl
 comments_length k (c ∷ cs) = ap suc (comments_length k cs)
 
 pub suffix_length : (x : Option Slice) → length (suffix x) ≡ suffix_size x
-suffix_length none = refl
-suffix_length (some c) = refl
+suffix_length None = refl
+suffix_length (Some c) = refl
 
 mutual
   unfolding tree_size tree_records

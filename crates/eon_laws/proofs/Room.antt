@@ -7,7 +7,7 @@ use Prim.Native.Nat.{ℕ, suc, ◌*◌, ◌≤◌}
 use native.Mathlib.Omega.{arith}
 use lib.ListN.{length}
 use borrow.Author.Tests.{le-leb}
-use Rattle.eon_spec.specs.declared.Refusal.{Refusal}
+use Rattle.eon_spec.specs.Refused.{Refusal}
 use Rattle.eon_spec.specs.declared.Which.TheVariants.{Quoted, Scratch}
 use Rattle.eon_spec.specs.Utf8.{is_utf8, well_formed_len, well_formed_from, char_len}
 use Rattle.eon_spec.specs.Tree.{TokenTree}
@@ -15,7 +15,8 @@ use Rattle.eon_spec.specs.Parse.{parsed, parse}
 use Rattle.eon_spec.specs.Records.{tree_records, words}
 use Rattle.eon_spec.specs.Layout.{defaults, default_options, format}
 use Rattle.eon_spec.specs.Unquote.{Unescaped, value, fault, unquote}
-use Rattle.eon_spec.specs.Calls.{Outcome, done, refused_with, then, after, nowhere, checked, read_text, written, fill, fill_both, read_call, read_finished, good_settings, checked_settings, format_call, reformat_call, Part, part_of, is_part, opening, unescaped_outcome, handed_back, unquote_call}
+use Rattle.eon_spec.specs.declared.Part.{Part}
+use Rattle.eon_spec.specs.Calls.{Outcome, done, refused_with, then, after, nowhere, checked, read_text, written, fill, fill_both, read_call, read_finished, good_settings, checked_settings, format_call, reformat_call, part_of, is_part, opening, unescaped_outcome, handed_back, unquote_call}
 use Rattle.eon_laws.proofs.Numbers.{OfText, OfTable, checked_cases, read_cases, finished_cases}
 use Rattle.eon_laws.proofs.Records.{words_length}
 use Rattle.eon_laws.proofs.Spans.{few_records}

@@ -12,9 +12,10 @@ use borrow.Author.Tests.{le-leb, lt-ltb, le-ltb, ne_eqb}
 use Rattle.eon_spec.specs.Base.{elem, eq_list}
 use Rattle.eon_spec.specs.Utf8.{encode_char, encode, decode, is_utf8}
 use Rattle.eon_spec.specs.Unquote.{Unescaped, value, fault, push, unescape, plain, without, starts_with, ends_with, in_marks, one_line_only, drop_line_feed, unquote_chars, value_bytes, unquote}
-use Rattle.eon_spec.specs.declared.Refusal.{Refusal}
+use Rattle.eon_spec.specs.Refused.{Refusal}
 use Rattle.eon_spec.specs.declared.Which.TheVariants.{Quoted, Scratch}
-use Rattle.eon_spec.specs.Calls.{done, refused_with, After, after, nowhere, checked, written, fill, Part, part_of, opening, is_part, handed_back, unescaped_outcome, unquote_call, pick, show_call}
+use Rattle.eon_spec.specs.declared.Part.{Part}
+use Rattle.eon_spec.specs.Calls.{done, refused_with, After, after, nowhere, checked, written, fill, part_of, opening, is_part, handed_back, unescaped_outcome, unquote_call, pick, show_call}
 use Rattle.eon_laws.proofs.Facts.{clash, and_left, and_right, nor_left, nor_right, eq_of, eqb_same, le_of, list_eq, le_of_not, eqb_sym, elem_append}
 use Rattle.eon_laws.proofs.Encode.{encode_append, encode_decode}
 

@@ -1,11 +1,13 @@
+use Rattle.std.specs.Prelude.{Option}
 -- Each leaf of a tree that is read is a token of the text.
 use mathlib.Core.Path.{◌≡◌, refl, subst}
 use mathlib.Core.Bool.{Bool, true, false, ◌&&◌, not}
 use mathlib.Core.List.{List, [], ◌∷◌}
-use mathlib.Core.Option.{Option}
 use Prim.Native.Nat.{ℕ, zero, suc}
 use lib.ListN.{length}
-use Rattle.eon_spec.specs.Token.{TokenKind, Invalid, Comment, OpenList, CloseList, OpenBrace, CloseBrace, OpenParen, CloseParen, Colon, Comma, Identifier, Number, DoubleQuotedString, SingleQuotedString, MultilineBasicString, MultilineLiteralString, is_kind, Token}
+use Rattle.eon_spec.specs.declared.token_kind.TokenKind.{TokenKind}
+use Rattle.eon_spec.specs.declared.token_kind.TokenKind.TheVariants.{Invalid, Comment, OpenList, CloseList, OpenBrace, CloseBrace, OpenParen, CloseParen, Colon, Comma, Identifier, Number, DoubleQuotedString, SingleQuotedString, MultilineBasicString, MultilineLiteralString}
+use Rattle.eon_spec.specs.Token.{is_kind, Token}
 use Rattle.eon_spec.specs.Tree.{Span, Slice, TokenTree, TokenValue, TokenTrees, KeyValues, tree, identifier, number, quoted_string, list_of, map_of, variant_of, no_trees, ◌∷ᵗ◌, no_pairs, pair}
 use Rattle.eon_spec.specs.Parse.{Cursor, behind, rest, last, Read, read, refused, Reader, bind, list_contents, map_contents, list_inside, map_inside, comments_at, parse_comments, consume_token, string_or_variant, value_of, tree_behind, tree_with, value_at, inside_at, at_end, after_comma, suffix_comment, next_is, skip, span_of, with_prefix, with_suffix, TokenList, TokenMap, Parsed, parsed, refused_by, none_is_left, top_of, top_list, parse_top}
 use Rattle.eon_laws.proofs.Word.{IsString, double, single, basic, literal}

@@ -1,8 +1,8 @@
+use Rattle.std.specs.Prelude.{Option, None, Some}
 -- White space is one byte: the code point of a character of more bytes is 128 or more.
 use mathlib.Core.Path.{◌≡◌, refl, ◌∙◌, ap}
 use mathlib.Core.Logic.{◌⊎◌, inl, inr}
 use mathlib.Core.Bool.{Bool, true, false}
-use mathlib.Core.Option.{Option, none, some}
 use mathlib.Core.List.{List, [], ◌∷◌}
 use Prim.Native.Nat.{ℕ, suc, ◌≤◌, ◌<◌}
 use native.Mathlib.Omega.{arith}
@@ -19,13 +19,13 @@ abbrev pub InRows : List Row → ℕ → List Range → Type 0
 InRows [] b m = ⊥
 InRows ((f then g) ∷ rows) b m = ((in_range f b ≡ true) × (length g ≡ length m) × ((s : List ℕ) → fits m s ≡ true → fits g s ≡ true)) ⊎ InRows rows b m
 
-pub row_in : (rows : List Row) (b : ℕ) (m : List Range) → row_of rows b ≡ some m → InRows rows b m
+pub row_in : (rows : List Row) (b : ℕ) (m : List Range) → row_of rows b ≡ Some m → InRows rows b m
 row_in [] b m e = absurd (let y : ◌≡◌ {A = ℕ} 0 1 = cc in omega arith)
 row_in ((f then g) ∷ rows) b m e = go (in_range f b) refl e (row_in rows b m)
   where
-    go : (x : Bool) → in_range f b ≡ x → row_of ((f then g) ∷ rows) b ≡ some m → (row_of rows b ≡ some m → InRows rows b m) → InRows ((f then g) ∷ rows) b m
+    go : (x : Bool) → in_range f b ≡ x → row_of ((f then g) ∷ rows) b ≡ Some m → (row_of rows b ≡ Some m → InRows rows b m) → InRows ((f then g) ∷ rows) b m
     go true p e h =
-        let z : some g ≡ some m = rw (p, row_of) at e in
+        let z : Some g ≡ Some m = rw (p, row_of) at e in
         let y : g ≡ m = cc in
         inl (p, ap length y, λ s q. rw y q)
     go false p e h = inr (h (rw (p, row_of) at e))
@@ -76,13 +76,13 @@ pub char_wide : (b : ℕ) (s : List ℕ) → char_len (b ∷ s) ≡ suc (length 
 unfolding char_len
 char_wide b s e z = go (row_of table37 b) refl e
   where
-    go2 : (m : List Range) (x : Bool) → row_of table37 b ≡ some m → fits m s ≡ x → len_if (some m) s ≡ suc (length s) → 128 ≤ code_point (b ∷ s)
+    go2 : (m : List Range) (x : Bool) → row_of table37 b ≡ Some m → fits m s ≡ x → len_if (Some m) s ≡ suc (length s) → 128 ≤ code_point (b ∷ s)
     go2 m true p q e = let y : suc (length m) ≡ suc (length s) = rw (q, len_if) at e in wide b s m (row_in table37 b m p) q (omega arith) z
     go2 m false p q e = absurd (let y : 0 ≡ suc (length s) = rw (q, len_if) at e in omega arith)
 
     go : (o : Option (List Range)) → row_of table37 b ≡ o → len_if o s ≡ suc (length s) → 128 ≤ code_point (b ∷ s)
-    go none p e = absurd (omega arith)
-    go (some m) p e = go2 m (fits m s) p refl e
+    go None p e = absurd (omega arith)
+    go (Some m) p e = go2 m (fits m s) p refl e
 
 space_low : (x : ℕ) → elem x (32 ∷ 9 ∷ 10 ∷ 12 ∷ 13 ∷ []) ≡ true → x ≤ 32
 space_low x e = go (eqb x 32) (eqb x 9) (eqb x 10) (eqb x 12) (eqb x 13) refl refl refl refl refl

@@ -1,15 +1,17 @@
+use Rattle.std.specs.Prelude.{Option, None, Some}
 -- Where the parts of a tree stand: each span lies within the text, and a slice is the text's bytes at its span; where the text has a byte,
 -- so has the tree. Its tokens take no more bytes than the text has, so that a text of n bytes has at most n + 1 records. And how deep a tree
 -- is.
 use mathlib.Core.Path.{◌≡◌, refl, subst}
 use mathlib.Core.Bool.{Bool, true, false, ◌&&◌, not}
 use mathlib.Core.List.{List, [], ◌∷◌, ◌++◌}
-use mathlib.Core.Option.{Option, none, some}
 use Prim.Native.Nat.{ℕ, zero, suc, ◌+◌, ◌-◌, ◌≤◌, ◌<◌}
 use native.Mathlib.Omega.{arith}
 use lib.ListN.{length, drop, length-take}
 use Rattle.eon_spec.specs.Utf8.{is_utf8}
-use Rattle.eon_spec.specs.Token.{TokenKind, Invalid, Comment, OpenList, CloseList, OpenBrace, CloseBrace, OpenParen, CloseParen, Colon, Comma, Identifier, Number, DoubleQuotedString, SingleQuotedString, MultilineBasicString, MultilineLiteralString, is_kind, Token, tokens}
+use Rattle.eon_spec.specs.declared.token_kind.TokenKind.{TokenKind}
+use Rattle.eon_spec.specs.declared.token_kind.TokenKind.TheVariants.{Invalid, Comment, OpenList, CloseList, OpenBrace, CloseBrace, OpenParen, CloseParen, Colon, Comma, Identifier, Number, DoubleQuotedString, SingleQuotedString, MultilineBasicString, MultilineLiteralString}
+use Rattle.eon_spec.specs.Token.{is_kind, Token, tokens}
 use Rattle.eon_spec.specs.Tree.{Span, Slice, TokenTree, TokenValue, TokenTrees, KeyValues, tree, identifier, number, quoted_string, list_of, map_of, variant_of, no_trees, ◌∷ᵗ◌, no_pairs, pair}
 use Rattle.eon_spec.specs.Parse.{Cursor, behind, rest, last, Read, read, refused, Reader, bind, list_contents, map_contents, list_inside, map_inside, comments_at, parse_comments, consume_token, string_or_variant, value_of, tree_behind, tree_with, value_at, inside_at, at_end, after_comma, suffix_comment, next_is, skip, span_of, slice_of, with_prefix, with_suffix, TokenList, TokenMap, Parsed, parsed, refused_by, none_is_left, top_of, top_list, parse_top, parse}
 use Rattle.eon_spec.specs.Records.{tree_records}
@@ -27,8 +29,8 @@ module _ (s : List ℕ) where
   HoldsAll (c ∷ cs) = HoldsSlice c × HoldsAll cs
 
   abbrev pub HoldsSuffix : Option Slice → Type 0
-  HoldsSuffix none = Unit {0}
-  HoldsSuffix (some c) = HoldsSlice c
+  HoldsSuffix None = Unit {0}
+  HoldsSuffix (Some c) = HoldsSlice c
 
   abbrev mutual
     pub TreeFits : TokenTree → Type 0

@@ -1,8 +1,8 @@
+use Rattle.std.specs.Prelude.{Option, None, Some}
 -- The value of a quoted string takes no more bytes than the string; and unquoting refuses by 17 to 26.
 use mathlib.Core.Path.{◌≡◌, refl, ap}
 use mathlib.Core.Bool.{Bool, true, false, ◌&&◌, cond}
 use mathlib.Core.List.{List, [], ◌∷◌, ◌++◌}
-use mathlib.Core.Option.{Option, none, some}
 use Prim.Native.Nat.{ℕ, suc, ◌+◌, ◌-◌, ◌*◌, ◌≤◌}
 use native.Mathlib.Omega.{arith}
 use lib.ListN.{length, take, drop, length-append, take-append-drop}
@@ -60,14 +60,14 @@ push_within c m k (value v) h w = omega (arith, size_cons c v)
 push_within c m k (fault n) h w = w
 
 -- what holds of what is found and of what stands for nothing
-found : {A B : Type 0} (o : Option B) (Q : Option B → Type 0) (P : A → Type 0) (f : B → A) (y : A) → Q o → ((b : B) → Q (some b) → P (f b)) → P y → P (elim o [ some b ↦ f b | none ↦ y ])
-found (some b) Q P f y q g h = g b q
-found none Q P f y q g h = h
+found : {A B : Type 0} (o : Option B) (Q : Option B → Type 0) (P : A → Type 0) (f : B → A) (y : A) → Q o → ((b : B) → Q (Some b) → P (f b)) → P y → P (elim o [ Some b ↦ f b | None ↦ y ])
+found (Some b) Q P f y q g h = g b q
+found None Q P f y q g h = h
 
 -- an escape of one character gives one byte
 abbrev OneByte : Option ℕ → Type 0
-OneByte none = Unit {0}
-OneByte (some d) = length (encode_char d) ≡ 1
+OneByte None = Unit {0}
+OneByte (Some d) = length (encode_char d) ≡ 1
 
 -- .. as the table says
 abbrev all_one_byte : List (ℕ × ℕ) → Bool
@@ -77,7 +77,7 @@ all_one_byte (e ∷ es) = eqb (length (encode_char e.1)) 1 && all_one_byte es
 lookup_one : (c : ℕ) (es : List (ℕ × ℕ)) → all_one_byte es ≡ true → OneByte (lookup c es)
 lookup_one c [] h = tt
 lookup_one c (e ∷ es) h =
-    either (eqb c e.0) OneByte (some e.1) (lookup c es) (λ p. eq_of (length (encode_char e.1)) 1 (and_left (eqb (length (encode_char e.1)) 1) (all_one_byte es) h))
+    either (eqb c e.0) OneByte (Some e.1) (lookup c es) (λ p. eq_of (length (encode_char e.1)) 1 (and_left (eqb (length (encode_char e.1)) 1) (all_one_byte es) h))
     (λ p. lookup_one c es (and_right (eqb (length (encode_char e.1)) 1) (all_one_byte es) h))
 
 escape_one : (c : ℕ) → OneByte (lookup c escapes)

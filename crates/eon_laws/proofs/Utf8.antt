@@ -1,7 +1,7 @@
+use Rattle.std.specs.Prelude.{Option, None, Some}
 -- Laws of UTF-8 that the definitions give.
 use mathlib.Core.Path.{◌≡◌, refl}
 use mathlib.Core.Bool.{Bool, true, false}
-use mathlib.Core.Option.{Option, none, some}
 use mathlib.Core.List.{List, [], ◌∷◌, ◌++◌}
 use Prim.Native.Nat.{ℕ, zero, suc, ◌+◌, ◌≤◌}
 use native.Mathlib.Omega.{arith}
@@ -33,18 +33,18 @@ fits_length (r ∷ rs) (b ∷ s) e = go (in_range r b) refl e (fits_length rs s)
     go false p e f = false_true (rw (p, fits) at e)
 
 len_if_append : (o : Option (List Range)) (s t : List ℕ) (k : ℕ) → len_if o s ≡ suc k → len_if o (s ++ t) ≡ suc k
-len_if_append none s t k e = e
-len_if_append (some rs) s t k e = go (fits rs s) refl e
+len_if_append None s t k e = e
+len_if_append (Some rs) s t k e = go (fits rs s) refl e
   where
-    go : (x : Bool) → fits rs s ≡ x → len_if (some rs) s ≡ suc k → len_if (some rs) (s ++ t) ≡ suc k
+    go : (x : Bool) → fits rs s ≡ x → len_if (Some rs) s ≡ suc k → len_if (Some rs) (s ++ t) ≡ suc k
     go true p e = rw (fits_append rs s t p, len_if) (rw (p, len_if) at e)
     go false p e = absurd (let z = rw (p, len_if) at e in omega arith)
 
 len_if_length : (o : Option (List Range)) (s : List ℕ) (k : ℕ) → len_if o s ≡ suc k → k ≤ length s
-len_if_length none s k e = absurd (omega arith)
-len_if_length (some rs) s k e = go (fits rs s) refl e
+len_if_length None s k e = absurd (omega arith)
+len_if_length (Some rs) s k e = go (fits rs s) refl e
   where
-    go : (x : Bool) → fits rs s ≡ x → len_if (some rs) s ≡ suc k → k ≤ length s
+    go : (x : Bool) → fits rs s ≡ x → len_if (Some rs) s ≡ suc k → k ≤ length s
     go true p e = let z = rw (p, len_if) at e in omega (arith, fits_length rs s p)
     go false p e = absurd (let z = rw (p, len_if) at e in omega arith)
 

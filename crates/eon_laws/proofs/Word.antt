@@ -5,7 +5,9 @@ use mathlib.Core.List.{List, [], ◌∷◌}
 use Prim.Native.Nat.{ℕ}
 use lib.ListN.{length}
 use Rattle.eon_spec.specs.Utf8.{Character, chars, well_formed_len}
-use Rattle.eon_spec.specs.Token.{TokenKind, DoubleQuotedString, SingleQuotedString, MultilineBasicString, MultilineLiteralString, longest_rule, rules, is_space}
+use Rattle.eon_spec.specs.declared.token_kind.TokenKind.{TokenKind}
+use Rattle.eon_spec.specs.declared.token_kind.TokenKind.TheVariants.{DoubleQuotedString, SingleQuotedString, MultilineBasicString, MultilineLiteralString}
+use Rattle.eon_spec.specs.Token.{longest_rule, rules, is_space}
 
 pub data IsString : TokenKind → Type 0 where
   double : IsString DoubleQuotedString

@@ -8,7 +8,9 @@ use lib.ListN.{length, take, drop, length-append}
 use lib.Seq.{length-take-le, take-append_seam, drop-append_seam}
 use lib.Dec.{eqb}
 use Rattle.eon_spec.specs.Utf8.{Character, joined, code_point}
-use Rattle.eon_spec.specs.Token.{TokenKind, Invalid, is_kind, tokens_from, longest_rule, rules, is_space}
+use Rattle.eon_spec.specs.declared.token_kind.TokenKind.{TokenKind}
+use Rattle.eon_spec.specs.declared.token_kind.TokenKind.TheVariants.{Invalid}
+use Rattle.eon_spec.specs.Token.{is_kind, tokens_from, longest_rule, rules, is_space}
 use Rattle.eon_laws.proofs.Word.{IsWord}
 use Rattle.eon_laws.proofs.Chars.{AllChars, all_formed, all_chars}
 use Rattle.eon_laws.proofs.Spaces.{space_length}

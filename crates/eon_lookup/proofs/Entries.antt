@@ -1,13 +1,7 @@
 -- What an answered lookup is: what the paths of a path list find in the event's tree. It has an entry for each of 128 paths, and its steps are
 -- no more than the event's records.
-use mathlib.Core.Path.{◌≡◌, refl, sym, ◌∙◌, ap}
-use mathlib.Core.Bool.{Bool, true, false, cond}
-use mathlib.Core.List.{List, []}
-use mathlib.Core.Option.{Option, none, some}
-use Prim.Native.Nat.{ℕ, ◌≤◌}
-use native.Mathlib.Omega.{arith}
-use lib.ListN.{length, length-replicate}
-use lib.Dec.{leb}
+use Rattle.std.proofs.Common.{Option, None, Some, ◌≡◌, refl, sym, ◌∙◌, ap, Bool, true, false, cond, List, [], ℕ, ◌≤◌, arith, length, leb}
+use Rattle.std.proofs.Math.ListN.{length-replicate}
 use Rattle.eon_spec.specs.Tree.{TokenTree, TokenValue, tree, identifier, number, quoted_string, list_of, map_of, variant_of}
 use Rattle.eon_spec.specs.Records.{tree_records}
 use Rattle.eon_spec.specs.Calls.{Outcome, done, refused_with, then, or_refused, read_finished}
@@ -19,15 +13,15 @@ use Rattle.eon_lookup.proofs.Steps.{few_steps}
 
 -- ---- a path list has at most 128 paths
 
-kept : {A : Type 0} (test : A → Bool) (o : Option A) (a : A) → keep_if test o ≡ some a → test a ≡ true
-kept test none a e = absurd (let z : ◌≡◌ {A = ℕ} 0 1 = cc in omega arith)
-kept {A} test (some b) a e = go (test b) refl e
+kept : {A : Type 0} (test : A → Bool) (o : Option A) (a : A) → keep_if test o ≡ Some a → test a ≡ true
+kept test None a e = absurd (let z : ◌≡◌ {A = ℕ} 0 1 = cc in omega arith)
+kept {A} test (Some b) a e = go (test b) refl e
   where
-    go : (x : Bool) → test b ≡ x → cond x (some b) none ≡ some a → test a ≡ true
+    go : (x : Bool) → test b ≡ x → cond x (Some b) None ≡ Some a → test a ≡ true
     go true p e = let z : b ≡ a = cc in ap test (sym z) ∙ p
     go false p e = absurd (let z : ◌≡◌ {A = ℕ} 0 1 = cc in omega arith)
 
-list_few : (v : TokenValue) (ps : List Path) → path_list_in v ≡ some ps → length ps ≤ paths_max
+list_few : (v : TokenValue) (ps : List Path) → path_list_in v ≡ Some ps → length ps ≤ paths_max
 list_few (identifier b) ps e = absurd (let z : ◌≡◌ {A = ℕ} 0 1 = cc in omega arith)
 list_few (number b) ps e = absurd (let z : ◌≡◌ {A = ℕ} 0 1 = cc in omega arith)
 list_few (quoted_string b) ps e = absurd (let z : ◌≡◌ {A = ℕ} 0 1 = cc in omega arith)
@@ -35,7 +29,7 @@ list_few (list_of vs cl) ps e = le_of (length ps) paths_max (kept (λ (qs : List
 list_few (map_of kvs cl) ps e = absurd (let z : ◌≡◌ {A = ℕ} 0 1 = cc in omega arith)
 list_few (variant_of n vs cl) ps e = absurd (let z : ◌≡◌ {A = ℕ} 0 1 = cc in omega arith)
 
-pub few_paths : (u : TokenTree) (ps : List Path) → path_list u ≡ some ps → length ps ≤ paths_max
+pub few_paths : (u : TokenTree) (ps : List Path) → path_list u ≡ Some ps → length ps ≤ paths_max
 unfolding path_list
 few_paths (tree s p v x) ps e = list_few v ps e
 
@@ -48,7 +42,7 @@ pub record LookedUp (s sTable q qTable : List ℕ) (l : Looked) : Type 0 where
   pub text : TokenTree
   pub read_paths : read_finished q qTable ≡ done text
   pub paths : List Path
-  pub form : path_list text ≡ some paths
+  pub form : path_list text ≡ Some paths
   pub found : l ≡ looked event paths
 
 module _ (s sTable q qTable : List ℕ) where
@@ -57,8 +51,8 @@ module _ (s sTable q qTable : List ℕ) where
   lookup_answers l e = go (read_finished s sTable) refl (read_finished q qTable) refl e
     where
       by_form : (t u : TokenTree) → read_finished s sTable ≡ done t → read_finished q qTable ≡ done u → (o : Option (List Path)) → path_list u ≡ o → then (or_refused 28 o) (λ ps. done (looked t ps)) ≡ done l → LookedUp s sTable q qTable l
-      by_form t u a b none c f = refusal_done _ l f
-      by_form t u a b (some ps) c f = record { event = t; read_event = a; text = u; read_paths = b; paths = ps; form = c; found = (let z : looked t ps ≡ l = cc in sym z) }
+      by_form t u a b None c f = refusal_done _ l f
+      by_form t u a b (Some ps) c f = record { event = t; read_event = a; text = u; read_paths = b; paths = ps; form = c; found = (let z : looked t ps ≡ l = cc in sym z) }
 
       go : (x : Outcome TokenTree) → read_finished s sTable ≡ x → (y : Outcome TokenTree) → read_finished q qTable ≡ y → then x (λ t. then y λ u. then (or_refused 28 (path_list u)) λ ps. done (looked t ps)) ≡ done l → LookedUp s sTable q qTable l
       go (refused_with r) a y b f = refusal_done r l f

@@ -1,40 +1,29 @@
 -- The form of a path list: items read off one after the other.
-use mathlib.Core.Path.{◌≡◌, refl, sym, ap, ap₂, ◌∙◌}
-use mathlib.Core.Bool.{Bool, true, false, ◌&&◌, ◌||◌, cond}
-use mathlib.Core.List.{List, [], ◌∷◌, ◌++◌, append_assoc}
-use mathlib.Core.Option.{Option, none, some}
-use Prim.Native.Nat.{ℕ, zero, suc, ◌+◌, ◌-◌, ◌*◌, ◌≤◌, ◌<◌}
-use native.Mathlib.Omega.{arith}
-use native.Mathlib.Nat.{add-zero}
-use native.Mathlib.Numerals.{add-one}
-use lib.ListN.{length, get_or, set, length-append, length-set}
-use lib.Seq.{get_or-set_same, get_or-set_other}
-use lib.Dec.{leb, eqb}
-use borrow.Author.Tests.{le-leb, lt-leb, eq-eqb}
-use native.Mathlib.Decide.{dec_lt}
-use Rattle.eon_spec.specs.Base.{within, elem}
+use Rattle.std.proofs.Common.{append-nil, Option, None, Some, ◌≡◌, refl, sym, ap, ap₂, ◌∙◌, subst, Bool, true, false, ◌&&◌, cond, List, [], ◌∷◌, ◌++◌, append_assoc, ℕ, zero, suc, ◌+◌, ◌-◌, ◌≤◌, ◌<◌, arith, add-zero, zero-add, add-one, length, get_or, set, take, length-append, get_or-set_same, get_or-set_other, get_or-append-add, take-suc, take-suc-set, take_all, length-take-le, leb, le-leb}
+use Rattle.std.proofs.Math.ListN.{get_or-append}
+use Rattle.std.proofs.lemmas.Bool.{lt-leb}
+use Rattle.std.proofs.Math.Decide.{dec_lt}
+use Rattle.eon_spec.specs.Base.{within}
 use Rattle.eon_spec.specs.Tree.{Slice, TokenTree, TokenValue, TokenTrees, tree, identifier, number, quoted_string, list_of, map_of, variant_of, no_trees, ◌∷ᵗ◌}
 use Rattle.eon_spec.specs.Calls.{record_text}
-use Rattle.eon_spec.specs.Lookup.{keys_max, paths_max, Key, Path, both, keys_of, keep_if, path_in, path_of, paths_of, path_list_in, path_list}
+use Rattle.eon_spec.specs.Lookup.{Key, Path, both, keys_of, keep_if, path_in, path_of, paths_of, path_list_in, path_list}
 use Rattle.eon_table.specs.Words.{word, record_of, part, more_at}
 use Rattle.eon_table.proofs.Parts.{text_some}
 use Rattle.eon_laws.proofs.Facts.{clash}
 use Rattle.eon_table.specs.TreeAt.{kind_of, value_of, TreeAt, InsideAt, NextAt, SomeTree}
 use Rattle.eon_table.proofs.Here.{Item, item, no_item}
-use Rattle.eon_lookup.specs.Keys.{key_words, place_of, key_kind, below, key_at, keys_from, rest_at, rests, GoesOn, Going, made}
-use Rattle.eon_lookup.proofs.Lists.{or_yes, in_below, all_below}
-
-append-nil : {A : Type 0} (l : List A) → l ++ [] ≡ l
-append-nil [] = refl
-append-nil (x ∷ l) = ap (λ m. x ∷ m) (append-nil l)
+use Rattle.eon_lookup.specs.declared.paths.Place.{Place}
+use Rattle.eon_lookup.specs.declared.paths.Keys.{Keys}
+use Rattle.eon_lookup.specs.Keys.{key_kind, below, no_place, no_keys, many, key_text, keys_from, whole, wholes, rest_at, rests, GoesOn, Going}
+use Rattle.eon_lookup.proofs.Lists.{in_below, all_below}
 
 -- ---- items of a list, one after the other
 
 abbrev pub prepend : {A : Type 0} → List A → Option (List A) → Option (List A)
-prepend front none = none
-prepend front (some l) = some (front ++ l)
+prepend front None = None
+prepend front (Some l) = Some (front ++ l)
 
-module _ {A : Type 0} (f : TokenTree → Option A) (fs : TokenTrees → Option (List A)) (empty : fs no_trees ≡ some []) (first : (t : TokenTree) (ts : TokenTrees) → fs (t ∷ᵗ ts) ≡ both (λ x l. x ∷ l) (f t) (fs ts)) (s tb : List ℕ) (end : ℕ) (vs : TokenTrees) (cl : List Slice) where
+module _ {A : Type 0} (f : TokenTree → Option A) (fs : TokenTrees → Option (List A)) (empty : fs no_trees ≡ Some []) (first : (t : TokenTree) (ts : TokenTrees) → fs (t ∷ᵗ ts) ≡ both (λ x l. x ∷ l) (f t) (fs ts)) (s tb : List ℕ) (end : ℕ) (vs : TokenTrees) (cl : List Slice) where
   -- `front` was read before record j
   pub record Listed (j : ℕ) (front : List A) : Type 0 where
     pub left : TokenTrees
@@ -45,12 +34,12 @@ module _ {A : Type 0} (f : TokenTree → Option A) (fs : TokenTrees → Option (
   listed_start j h = record { left = vs; inside = h; so = same (fs vs) }
     where
       same : (o : Option (List A)) → o ≡ prepend [] o
-      same none = refl
-      same (some l) = refl
+      same None = refl
+      same (Some l) = refl
 
   module _ (j : ℕ) (front : List A) (t : Listed j front) where
-    pub listed_all : more_at tb end j ≡ false → fs vs ≡ some front
-    listed_all m = t.so ∙ ap (prepend front) (ap fs (no_item t.inside m) ∙ empty) ∙ ap some (append-nil front)
+    pub listed_all : more_at tb end j ≡ false → fs vs ≡ Some front
+    listed_all m = t.so ∙ ap (prepend front) (ap fs (no_item t.inside m) ∙ empty) ∙ ap Some (append-nil front)
 
     module _ (m : more_at tb end j ≡ true) where
       abbrev e : Item s tb end j t.left cl
@@ -62,7 +51,7 @@ module _ {A : Type 0} (f : TokenTree → Option A) (fs : TokenTrees → Option (
       so_far : fs vs ≡ prepend front (both (λ x l. x ∷ l) (f e.first) (fs e.rest))
       so_far = t.so ∙ ap (prepend front) (ap fs e.is ∙ first e.first e.rest)
 
-      pub listed_next : (r : ℕ) → NextAt tb end j r → (a : A) → ((u : TokenTree) → TreeAt s tb end j u → f u ≡ some a) → Listed r (front ++ (a ∷ []))
+      pub listed_next : (r : ℕ) → NextAt tb end j r → (a : A) → ((u : TokenTree) → TreeAt s tb end j u → f u ≡ Some a) → Listed r (front ++ (a ∷ []))
       listed_next r n a h =
           record {
             left = e.rest;
@@ -70,22 +59,22 @@ module _ {A : Type 0} (f : TokenTree → Option A) (fs : TokenTrees → Option (
             so = so_far ∙ ap (λ (o : Option A). prepend front (both (λ x l. x ∷ l) o (fs e.rest))) (h e.first e.here.at) ∙ move (fs e.rest);
           }
         where
-          move : (o : Option (List A)) → prepend front (both (λ x l. x ∷ l) (some a) o) ≡ prepend (front ++ (a ∷ [])) o
-          move none = refl
-          move (some l) = ap some (sym (append_assoc front (a ∷ []) l))
+          move : (o : Option (List A)) → prepend front (both (λ x l. x ∷ l) (Some a) o) ≡ prepend (front ++ (a ∷ [])) o
+          move None = refl
+          move (Some l) = ap Some (sym (append_assoc front (a ∷ []) l))
 
-      pub listed_bad : ((u : TokenTree) → TreeAt s tb end j u → f u ≡ none) → fs vs ≡ none
+      pub listed_bad : ((u : TokenTree) → TreeAt s tb end j u → f u ≡ None) → fs vs ≡ None
       listed_bad h = so_far ∙ ap (λ (o : Option A). prepend front (both (λ x l. x ∷ l) o (fs e.rest))) (h e.first e.here.at)
 
-      pub listed_long : (test : List A → Bool) → ((l : List A) → length front < length l → test l ≡ false) → keep_if test (fs vs) ≡ none
+      pub listed_long : (test : List A → Bool) → ((l : List A) → length front < length l → test l ≡ false) → keep_if test (fs vs) ≡ None
       listed_long test h = ap (keep_if test) so_far ∙ go (f e.first) (fs e.rest)
         where
-          go : (x : Option A) (y : Option (List A)) → keep_if test (prepend front (both (λ x l. x ∷ l) x y)) ≡ none
-          go none y = refl
-          go (some a) none = refl
-          go (some a) (some l) =
+          go : (x : Option A) (y : Option (List A)) → keep_if test (prepend front (both (λ x l. x ∷ l) x y)) ≡ None
+          go None y = refl
+          go (Some a) None = refl
+          go (Some a) (Some l) =
               let z : length (front ++ (a ∷ l)) ≡ length front + length (a ∷ l) = length-append front (a ∷ l) in
-              ap (λ (b : Bool). cond b (some (front ++ (a ∷ l))) none) (h (front ++ (a ∷ l)) (omega arith))
+              ap (λ (b : Bool). cond b (Some (front ++ (a ∷ l))) None) (h (front ++ (a ∷ l)) (omega arith))
 
 -- ---- stored keys
 
@@ -94,49 +83,51 @@ pub key_part : (q tq : List ℕ) (k : ℕ) → key_kind (word tq k 0) ≡ true �
 key_part q tq k e = sym (text_some q (record_of tq k) (λ z. clash e (ap key_kind z)) (λ z. clash e (ap key_kind z)))
 
 module _ (q : List ℕ) where
-  pub keys_length : (keys : List ℕ) (n b : ℕ) → length (keys_from q keys b n) ≡ n
+  pub keys_length : (l : List Place) (n d : ℕ) → length (keys_from q l d n) ≡ n
   unfolding keys_from
-  keys_length keys zero b = refl
-  keys_length keys (suc n) b = ap suc (keys_length keys n (b + 2))
+  keys_length l zero d = refl
+  keys_length l (suc n) d = ap suc (keys_length l n (d + 1))
 
-  -- the same words give the same keys
-  keys_same : (keys keys' : List ℕ) (n b : ℕ) → ((x : ℕ) → b ≤ x → x < b + 2 * n → get_or keys' x 0 ≡ get_or keys x 0) → keys_from q keys' b n ≡ keys_from q keys b n
+  -- the same places give the same keys
+  keys_same : (l l' : List Place) (n d : ℕ) → ((x : ℕ) → d ≤ x → x < d + n → get_or l' x no_place ≡ get_or l x no_place) → keys_from q l' d n ≡ keys_from q l d n
   unfolding keys_from
-  keys_same keys keys' zero b h = refl
-  keys_same keys keys' (suc n) b h =
-      ap₂ (λ (k : Key) (l : Path). k ∷ l) (ap₂ (part q) (h b (omega arith) (omega arith)) (h (b + 1) (omega arith) (omega arith)))
-      (keys_same keys keys' n (b + 2) (λ x l m. h x (omega arith) (omega arith)))
+  keys_same l l' zero d h = refl
+  keys_same l l' (suc n) d h =
+      ap₂ (λ (k : Key) (r : Path). k ∷ r) (ap (λ (w : Place). part q w.start w.end) (h d (omega arith) (omega arith)))
+      (keys_same l l' n (d + 1) (λ x a b. h x (omega arith) (omega arith)))
 
-  keys_more : (keys : List ℕ) (n b : ℕ) → keys_from q keys b (suc n) ≡ keys_from q keys b n ++ (key_at q keys (b + 2 * n) ∷ [])
+  keys_more : (l : List Place) (n d : ℕ) → keys_from q l d (suc n) ≡ keys_from q l d n ++ (key_text q l (d + n) ∷ [])
   unfolding keys_from
-  keys_more keys zero b = ap (λ (x : ℕ). key_at q keys x ∷ []) (sym (add-zero b))
-  keys_more keys (suc n) b =
-      let e : b + 2 + 2 * n ≡ b + 2 * suc n = omega arith in
-      ap (λ (l : Path). key_at q keys b ∷ l) (keys_more keys n (b + 2) ∙ ap (λ (x : ℕ). keys_from q keys (b + 2) n ++ (key_at q keys x ∷ [])) e)
+  keys_more l zero d = ap (λ (x : ℕ). key_text q l x ∷ []) (sym (add-zero d))
+  keys_more l (suc n) d =
+      let e : d + 1 + n ≡ d + suc n = omega arith in
+      ap (λ (r : Path). key_text q l d ∷ r) (keys_more l n (d + 1) ∙ ap (λ (x : ℕ). keys_from q l (d + 1) n ++ (key_text q l x ∷ [])) e)
 
-  pub key_put : (keys : List ℕ) (n b f t : ℕ) → b + 2 * n + 1 < length keys
-      → keys_from q (set (set keys (b + 2 * n) f) (b + 2 * n + 1) t) b (n + 1) ≡ keys_from q keys b n ++ (part q f t ∷ [])
-  key_put keys n b f t h =
-      ap (keys_from q stored b) (add-one n)
-      ∙ keys_more stored n b
-      ∙ ap₂ (λ (l : Path) (x : Key). l ++ (x ∷ [])) (keys_same keys stored n b (λ x l m. others x m)) (ap₂ (part q) start end)
-    where
-      at : ℕ
-      at = b + 2 * n
+  -- one key more is stored
+  pub key_put : (l : List Place) (n : ℕ) (w : Place) → n < length l → keys_from q (set l n w) 0 (n + 1) ≡ keys_from q l 0 n ++ (part q w.start w.end ∷ [])
+  key_put l n w h =
+      ap (keys_from q (set l n w) 0) (add-one n)
+      ∙ keys_more (set l n w) n 0
+      ∙ ap₂ (λ (r : Path) (v : Place). r ++ (part q v.start v.end ∷ [])) (keys_same l (set l n w) n 0 (λ x a b. get_or-set_other l n x w no_place (λ e. omega arith)))
+      (ap (λ (x : ℕ). get_or (set l n w) x no_place) (zero-add n) ∙ get_or-set_same l n w no_place h)
 
-      stored : List ℕ
-      stored = set (set keys at f) (at + 1) t
+  pub whole_none : (k : Keys) → k.len ≡ 0 → whole q k ≡ []
+  unfolding keys_from
+  whole_none k e = ap (keys_from q k.places 0) e
 
-      others : (x : ℕ) → x < at → get_or stored x 0 ≡ get_or keys x 0
-      others x l = get_or-set_other (set keys at f) (at + 1) x t 0 (λ e. omega arith) ∙ get_or-set_other keys at x f 0 (λ e. omega arith)
+  pub whole_length : (k : Keys) → length (whole q k) ≡ k.len
+  whole_length k = keys_length k.places k.len 0
 
-      start : get_or stored at 0 ≡ f
-      start = get_or-set_other (set keys at f) (at + 1) at t 0 (λ e. omega arith) ∙ get_or-set_same keys at f 0 (omega arith)
+  -- one path more is stored
+  pub wholes_append : (a b : List Keys) → wholes q (a ++ b) ≡ wholes q a ++ wholes q b
+  wholes_append [] b = refl
+  wholes_append (k ∷ a) b = ap (λ (l : List Path). whole q k ∷ l) (wholes_append a b)
 
-      end : get_or stored (at + 1) 0 ≡ t
-      end = get_or-set_same (set keys at f) (at + 1) t 0 (omega (arith, length-set keys at f))
+  pub wholes_length : (a : List Keys) → length (wholes q a) ≡ length a
+  wholes_length [] = refl
+  wholes_length (k ∷ a) = ap suc (wholes_length a)
 
-pub path_other : (v : TokenValue) → (kind_of v ≡ 4 → ⊥) → path_in v ≡ none
+pub path_other : (v : TokenValue) → (kind_of v ≡ 4 → ⊥) → path_in v ≡ None
 path_other (identifier b) h = refl
 path_other (number b) h = refl
 path_other (quoted_string b) h = refl
@@ -144,14 +135,15 @@ path_other (list_of vs cl) h = absurd (h refl)
 path_other (map_of kvs cl) h = refl
 path_other (variant_of n vs cl) h = refl
 
-pub path_done : (vs : TokenTrees) (cl : List Slice) (n : ℕ) (ks : Path) → keys_of vs ≡ some ks → length ks ≡ n → n ≤ 8 → path_in (list_of vs cl) ≡ made n ks
-path_done vs cl n ks e l h = ap (keep_if (λ ks. within 1 8 (length ks))) e ∙ ap (λ (m : ℕ). cond (within 1 8 m) (some ks) none) l ∙ go n h
-  where
-    go : (n : ℕ) → n ≤ 8 → cond (within 1 8 n) (some ks) none ≡ made n ks
-    go zero h = refl
-    go (suc m) h = ap₂ (λ (a b : Bool). cond (a && b) (some ks) none) (le-leb 1 (suc m) (omega arith)) (le-leb (suc m) 8 h)
+pub path_done : (vs : TokenTrees) (cl : List Slice) (n : ℕ) (ks : Path) → keys_of vs ≡ Some ks → length ks ≡ n → 0 < n → n ≤ 8 → path_in (list_of vs cl) ≡ Some ks
+path_done vs cl n ks e l g h =
+    ap (keep_if (λ ks. within 1 8 (length ks))) e ∙ ap (λ (m : ℕ). cond (within 1 8 m) (Some ks) None) l
+    ∙ ap₂ (λ (a b : Bool). cond (a && b) (Some ks) None) (le-leb 1 n (omega arith)) (le-leb n 8 h)
 
-pub path_bad : (vs : TokenTrees) (cl : List Slice) → keys_of vs ≡ none → path_in (list_of vs cl) ≡ none
+pub path_empty : (vs : TokenTrees) (cl : List Slice) (n : ℕ) (ks : Path) → keys_of vs ≡ Some ks → length ks ≡ n → n ≡ 0 → path_in (list_of vs cl) ≡ None
+path_empty vs cl n ks e l h = ap (keep_if (λ ks. within 1 8 (length ks))) e ∙ ap (λ (m : ℕ). cond (within 1 8 m) (Some ks) None) (l ∙ h)
+
+pub path_bad : (vs : TokenTrees) (cl : List Slice) → keys_of vs ≡ None → path_in (list_of vs cl) ≡ None
 path_bad vs cl e = ap (keep_if (λ ks. within 1 8 (length ks))) e
 
 pub nine_keys : (l : Path) → 8 < length l → within 1 8 (length l) ≡ false
@@ -160,14 +152,6 @@ nine_keys l h = ap (λ (b : Bool). leb 1 (length l) && b) (lt-leb (length l) 8 h
     off : (b : Bool) → b && false ≡ false
     off true = refl
     off false = refl
-
-pub made_some : (n : ℕ) (ks : Path) → (n ≡ 0 → ⊥) → made n ks ≡ some ks
-made_some zero ks h = absurd (h refl)
-made_some (suc n) ks h = refl
-
-pub made_none : (n : ℕ) (ks : Path) → n ≡ 0 → made n ks ≡ none
-made_none zero ks h = refl
-made_none (suc n) ks h = absurd (omega arith)
 
 -- ---- stored paths
 
@@ -178,7 +162,7 @@ pub list_of_lem : (t : TokenTree) → path_list t ≡ path_list_in (value_of t)
 unfolding path_list
 list_of_lem (tree sp p v x) = refl
 
-pub list_other : (v : TokenValue) → (kind_of v ≡ 4 → ⊥) → path_list_in v ≡ none
+pub list_other : (v : TokenValue) → (kind_of v ≡ 4 → ⊥) → path_list_in v ≡ None
 list_other (identifier b) h = refl
 list_other (number b) h = refl
 list_other (quoted_string b) h = refl
@@ -186,78 +170,57 @@ list_other (list_of vs cl) h = absurd (h refl)
 list_other (map_of kvs cl) h = refl
 list_other (variant_of n vs cl) h = refl
 
-pub list_done : (vs : TokenTrees) (cl : List Slice) (n : ℕ) (ps : List Path) → paths_of vs ≡ some ps → length ps ≡ n → n ≤ 128 → path_list_in (list_of vs cl) ≡ cond (leb n 128) (some ps) none
-list_done vs cl n ps e l h = ap (keep_if (λ ps. leb (length ps) 128)) e ∙ ap (λ (m : ℕ). cond (leb m 128) (some ps) none) l
+pub list_done : (vs : TokenTrees) (cl : List Slice) (ps : List Path) → paths_of vs ≡ Some ps → length ps ≤ 128 → path_list_in (list_of vs cl) ≡ Some ps
+list_done vs cl ps e h = ap (keep_if (λ ps. leb (length ps) 128)) e ∙ ap (λ (b : Bool). cond b (Some ps) None) (le-leb (length ps) 128 h)
 
-pub list_bad : (vs : TokenTrees) (cl : List Slice) → paths_of vs ≡ none → path_list_in (list_of vs cl) ≡ none
+pub list_bad : (vs : TokenTrees) (cl : List Slice) → paths_of vs ≡ None → path_list_in (list_of vs cl) ≡ None
 list_bad vs cl e = ap (keep_if (λ ps. leb (length ps) 128)) e
 
-rests_append : (q keys : List ℕ) (d : ℕ) (a b : List ℕ) → rests q keys d (a ++ b) ≡ rests q keys d a ++ rests q keys d b
-rests_append q keys d [] b = refl
-rests_append q keys d (p ∷ a) b = ap (λ (l : List Path). rest_at q keys d p ∷ l) (rests_append q keys d a b)
+-- ---- the paths, each behind no key
 
-pub rests_length : (q keys : List ℕ) (d : ℕ) (a : List ℕ) → length (rests q keys d a) ≡ length a
-rests_length q keys d [] = refl
-rests_length q keys d (p ∷ a) = ap suc (rests_length q keys d a)
+module _ (q : List ℕ) (paths : List Keys) where
+  rests_append : (d : ℕ) (a b : List ℕ) → rests q paths d (a ++ b) ≡ rests q paths d a ++ rests q paths d b
+  rests_append d [] b = refl
+  rests_append d (p ∷ a) b = ap (λ (l : List Path). rest_at q paths d p ∷ l) (rests_append d a b)
 
-rests_same : (q keys keys' : List ℕ) (a : List ℕ) → ((p : ℕ) → elem p a ≡ true → rest_at q keys' 0 p ≡ rest_at q keys 0 p) → rests q keys' 0 a ≡ rests q keys 0 a
-rests_same q keys keys' [] h = refl
-rests_same q keys keys' (p ∷ a) h =
-    ap₂ (λ (r : Path) (l : List Path). r ∷ l) (h p (ap (λ (b : Bool). b || elem p a) (eq-eqb p p refl)))
-    (rests_same q keys keys' a (λ x e. h x (ap (λ (b : Bool). eqb x p || b) e ∙ or_yes (eqb x p))))
+  pub rests_length : (d : ℕ) (a : List ℕ) → length (rests q paths d a) ≡ length a
+  rests_length d [] = refl
+  rests_length d (p ∷ a) = ap suc (rests_length d a)
 
--- where the words of a path's keys begin
-abbrev pub first_place : ℕ → ℕ
-first_place p = paths_max + 2 * (keys_max * p)
+  rests_below : (n : ℕ) → n ≤ length paths → rests q paths 0 (below n) ≡ wholes q (take n paths)
+  rests_below zero h = refl
+  rests_below (suc n) h =
+      let z : many paths n - 0 ≡ many paths n = omega arith in
+      rests_append 0 (below n) (n ∷ [])
+      ∙ ap₂ (λ (l : List Path) (r : Path). l ++ (r ∷ [])) (rests_below n (omega arith)) (ap (keys_from q (get_or paths n no_keys).places 0) z)
+      ∙ sym (ap (wholes q) (take-suc paths n no_keys (omega arith)) ∙ wholes_append q (take n paths) (get_or paths n no_keys ∷ []))
 
--- the keys of path n were stored, and then how many they are
-module _ (keys stored : List ℕ) (n len : ℕ) (room : length stored ≡ key_words) (few : n < paths_max) (g : Going keys 0 (below n)) (kept : (x : ℕ) → x < first_place n → get_or stored x 0 ≡ get_or keys x 0) where
-  abbrev keys' : List ℕ
-  keys' = set stored n len
+  pub rests_all : rests q paths 0 (below (length paths)) ≡ wholes q paths
+  rests_all = rests_below (length paths) (omega arith) ∙ ap (wholes q) (take_all (length paths) paths (omega arith))
 
-  others : (p : ℕ) → p < n → get_or keys' p 0 ≡ get_or keys p 0
-  others p h = get_or-set_other stored n p len 0 (λ e. omega arith) ∙ kept p (omega arith)
+-- a path more has keys
+module _ (room : List Keys) (n : ℕ) (k : Keys) (h : n < length room) where
+  pub put_last : take (n + 1) (set room n k) ≡ take n room ++ (k ∷ [])
+  put_last = ap (λ (m : ℕ). take m (set room n k)) (add-one n) ∙ take-suc-set room n k h
 
-  this : get_or keys' n 0 ≡ len
-  this = get_or-set_same stored n len 0 (omega arith)
-
-  pub path_put : (q : List ℕ) → rests q keys' 0 (below (n + 1)) ≡ rests q keys 0 (below n) ++ (keys_from q stored (first_place n) len ∷ [])
-  path_put q =
-      ap (λ (m : ℕ). rests q keys' 0 (below m)) (add-one n)
-      ∙ rests_append q keys' 0 (below n) (n ∷ [])
-      ∙ ap₂ (λ (l : List Path) (r : Path). l ++ (r ∷ [])) (rests_same q keys keys' (below n) same) now_here
+  pub going_put : (few : length room ≡ 128) → Going (take n room) 0 (below n) → 0 < k.len → k.len ≤ 8 → Going (take (n + 1) (set room n k)) 0 (below (n + 1))
+  going_put few g l z p m = subst (λ (ks : List Keys). GoesOn ks 0 p) (sym put_last) (go (dec_lt p n))
     where
-      same : (p : ℕ) → elem p (below n) ≡ true → rest_at q keys' 0 p ≡ rest_at q keys 0 p
-      same p e =
-          let l : p < n = in_below n p e in
-          let f : get_or keys p 0 ≤ keys_max = (g p e).few in
-          ap (λ (m : ℕ). keys_from q keys' (place_of p 0) (m - 0)) (others p l)
-          ∙ keys_same q keys keys' (get_or keys p 0 - 0) (place_of p 0) (λ x a h. get_or-set_other stored n x len 0 (λ z. omega arith) ∙ kept x (omega arith))
+      b : p < n + 1
+      b = in_below (n + 1) p m
 
-      now_here : rest_at q keys' 0 n ≡ keys_from q stored (first_place n) len
-      now_here =
-          let a : get_or keys' n 0 - 0 ≡ len = omega (arith, this) in
-          let b : place_of n 0 ≡ first_place n = omega arith in
-          ap₂ (λ (x y : ℕ). keys_from q keys' x y) b a
-          ∙ keys_same q stored keys' len (first_place n) (λ x a h. get_or-set_other stored n x len 0 (λ z. omega arith))
+      long : length (take n room) ≡ n
+      long = length-take-le n room (omega arith)
 
-  pub going_put : len ≤ keys_max → (len ≡ 0 → ⊥) → Going keys' 0 (below (n + 1))
-  going_put l z p e = go (dec_lt p n)
-    where
-      h : p < n + 1
-      h = in_below (n + 1) p e
+      all : length (take n room ++ (k ∷ [])) ≡ length (take n room) + length (k ∷ [])
+      all = length-append (take n room) (k ∷ [])
 
-      some : (m : ℕ) → (m ≡ 0 → ⊥) → 0 < m
-      some zero f = absurd (f refl)
-      some (suc m) f = omega arith
-
-      go : Dec (p < n) → GoesOn keys' 0 p
+      go : Dec (p < n) → GoesOn (take n room ++ (k ∷ [])) 0 p
       go (yes d) =
-          let o = others p d in
-          let k = g p (all_below n p d) in
-          record { small = k.small; more = omega (arith, o, k.more); few = omega (arith, o, k.few) }
+          let o : many (take n room ++ (k ∷ [])) p ≡ many (take n room) p = ap (λ (x : Keys). x.len) (get_or-append (take n room) (k ∷ []) no_keys p (omega (arith, long))) in
+          let x = g p (all_below n p d) in
+          record { small = x.small; there = omega (arith, long, all); more = omega (arith, o, x.more); few = omega (arith, o, x.few) }
       go (no d) =
-          let x : p ≡ n = omega (arith, h) in
-          let y : get_or keys' p 0 ≡ len = ap (λ (m : ℕ). get_or keys' m 0) x ∙ this in
-          let w : 0 < len = some len z in
-          record { small = omega arith; more = omega arith; few = omega arith }
+          let x : p ≡ length (take n room) + 0 = omega (arith, b, long) in
+          let o : many (take n room ++ (k ∷ [])) p ≡ k.len = ap (many (take n room ++ (k ∷ []))) x ∙ ap (λ (x : Keys). x.len) (get_or-append-add (take n room) (k ∷ []) 0 no_keys) in
+          record { small = omega (arith, b); there = omega (arith, b, long, all); more = omega (arith, o); few = omega (arith, o) }

@@ -1,10 +1,6 @@
 -- "each map that a proper front of some path reaches": what Steps calls inside a front is a key or a value of a map among the values that the
 -- front reaches, which are those of `reached`.
-use mathlib.Core.Path.{◌≡◌, refl, sym, ◌∙◌, ap, ap₂}
-use mathlib.Core.Bool.{Bool, true, false, ◌&&◌, ◌||◌}
-use mathlib.Core.List.{List, [], ◌∷◌, ◌++◌}
-use Prim.Native.Nat.{ℕ, suc, ◌+◌}
-use lib.ListN.{length}
+use Rattle.std.proofs.Common.{◌≡◌, refl, sym, ◌∙◌, ap, ap₂, Bool, true, false, ◌&&◌, ◌||◌, List, [], ◌∷◌, ◌++◌, ℕ, suc, ◌+◌, length}
 use Rattle.eon_spec.specs.Tree.{TokenTree, TokenValue, KeyValues, tree, identifier, number, quoted_string, list_of, map_of, variant_of, no_pairs, pair}
 use Rattle.eon_spec.specs.Lookup.{Key, Path, key_of, is_key, count, only, reached, reached_at, reached_in}
 use Rattle.eon_lookup.proofs.Steps.{is_member, inside, inside_at, inside_in}

@@ -1,15 +1,7 @@
 -- Lists of path numbers, and what answers gain.
-use mathlib.Core.Path.{◌≡◌, refl, sym, ap, ◌∙◌}
-use mathlib.Core.Bool.{Bool, true, false, ◌&&◌, ◌||◌, cond}
-use mathlib.Core.List.{List, [], ◌∷◌, ◌++◌}
-use mathlib.Core.Option.{Option, none, some}
-use Prim.Native.Nat.{ℕ, zero, suc, ◌<◌}
-use native.Mathlib.Omega.{arith}
-use native.Mathlib.Decide.{dec_lt}
-use lib.ListN.{length, get_or, set, length-append}
-use lib.Seq.{get_or-set_same, get_or-set_other}
-use lib.Dec.{eqb}
-use borrow.Author.Tests.{eq-eqb, ne_eqb}
+use Rattle.std.proofs.Common.{Option, None, Some, ◌≡◌, refl, sym, ap, ap₂, ◌∙◌, subst, Bool, true, false, ◌&&◌, ◌||◌, cond, List, [], ◌∷◌, ◌++◌, ℕ, zero, suc, ◌≤◌, ◌<◌, arith, length, get_or, set, take, length-append, get_or-set_same, get_or-set_other, take-suc, eqb, eq-eqb, ne_eqb}
+use Rattle.std.proofs.Math.Dec.{eqb-suc-zero}
+use Rattle.std.proofs.Math.Decide.{dec_lt}
 use Rattle.eon_spec.specs.Base.{elem}
 use Rattle.eon_laws.proofs.Facts.{clash, eq_of, elem_append}
 use Rattle.eon_lookup.specs.Keys.{below}
@@ -70,21 +62,40 @@ all_below (suc n) p h = elem_append p (below n) (n ∷ []) ∙ go (dec_lt p n) (
     go (yes d) f = ap (λ (b : Bool). b || (eqb p n || false)) (f d)
     go (no d) f = ap (λ (b : Bool). elem p (below n) || (b || false)) (eq-eqb p n (omega arith)) ∙ or_yes (elem p (below n))
 
+-- numbers in their places
+pub numbers_below : (l : List ℕ) (n : ℕ) → n ≤ length l → ((i : ℕ) → i < length l → get_or l i 0 ≡ i) → take n l ≡ below n
+numbers_below l zero h f = refl
+numbers_below l (suc n) h f = take-suc l n 0 (omega arith) ∙ ap₂ (λ (a : List ℕ) (x : ℕ). a ++ (x ∷ [])) (numbers_below l n (omega arith) f) (f n (omega arith))
+
+pub neither : (b : Bool) → ◌≡◌ {A = Option ℕ} (cond b None None) None
+neither true = refl
+neither false = refl
+
+-- ---- is a list empty?
+
+pub empty : (l k : List ℕ) → l ≡ k → true ≡ eqb (length l) 0 → k ≡ []
+empty [] k e f = sym e
+empty (x ∷ l) k e f = clash (sym f) (eqb-suc-zero (length l))
+
+pub not_empty : (l k : List ℕ) → l ≡ k → false ≡ eqb (length l) 0 → 0 < length k
+not_empty [] k e f = clash refl (sym f)
+not_empty (x ∷ l) k e f = subst (λ (m : List ℕ). 0 < length m) e (omega arith)
+
 -- ---- answers
 
 pub unless_assoc : (a b c : Option ℕ) → unless (unless a b) c ≡ unless a (unless b c)
-unless_assoc none b c = refl
-unless_assoc (some a) b c = refl
+unless_assoc None b c = refl
+unless_assoc (Some a) b c = refl
 
-pub unless_none : (a : Option ℕ) → unless a none ≡ a
-unless_none none = refl
-unless_none (some a) = refl
+pub unless_none : (a : Option ℕ) → unless a None ≡ a
+unless_none None = refl
+unless_none (Some a) = refl
 
 unless_twice : (a : Option ℕ) → unless a a ≡ a
-unless_twice none = refl
-unless_twice (some a) = refl
+unless_twice None = refl
+unless_twice (Some a) = refl
 
-pub gains_nothing : {f : ℕ → Option ℕ} {a : List ℕ} → ((p : ℕ) → f p ≡ none) → Gains f a a
+pub gains_nothing : {f : ℕ → Option ℕ} {a : List ℕ} → ((p : ℕ) → f p ≡ None) → Gains f a a
 gains_nothing {f} {a} h = record { has = λ p. sym (ap (unless (answer_of (get_or a p 0))) (h p) ∙ unless_none (answer_of (get_or a p 0))) }
 
 pub gains_then : {f g h : ℕ → Option ℕ} {a b c : List ℕ} → Gains f a b → Gains g b c → ((p : ℕ) → unless (f p) (g p) ≡ h p) → Gains h a c
@@ -95,20 +106,20 @@ pub gains_as : {f g : ℕ → Option ℕ} {a b : List ℕ} → Gains f a b → (
 gains_as {f} {g} {a} x e = record { has = λ p. x.has p ∙ ap (unless (answer_of (get_or a p 0))) (e p) }
 
 -- one path is answered
-pub gave : (a : List ℕ) (p w : ℕ) → p < length a → w < 4294967295 → Gains (λ x. cond (eqb x p) (some w) none) a (answered a p w)
+pub gave : (a : List ℕ) (p w : ℕ) → p < length a → w < 4294967295 → Gains (λ x. cond (eqb x p) (Some w) None) a (answered a p w)
 gave a p w h l = record { has = λ x. gave_at x (eqb (get_or a p 0) 4294967295) refl (eqb x p) refl }
   where
-    is : answer_of w ≡ some w
+    is : answer_of w ≡ Some w
     is = rw (ne_eqb w 4294967295 (λ e. omega arith))
 
     other : (x : ℕ) → eqb x p ≡ false → x ≡ p → ⊥
     other x e f = clash (eq-eqb x p f) e
 
     gave_at : (x : ℕ) (b : Bool) → eqb (get_or a p 0) 4294967295 ≡ b → (c : Bool) → eqb x p ≡ c
-        → answer_of (get_or (cond (eqb (get_or a p 0) 4294967295) (set a p w) a) x 0) ≡ unless (answer_of (get_or a x 0)) (cond (eqb x p) (some w) none)
+        → answer_of (get_or (cond (eqb (get_or a p 0) 4294967295) (set a p w) a) x 0) ≡ unless (answer_of (get_or a x 0)) (cond (eqb x p) (Some w) None)
     gave_at x true e true f =
         let z : x ≡ p = eq_of x p f in
-        rw (e, f, z) (ap answer_of (get_or-set_same a p w 0 h) ∙ is ∙ sym (ap (λ (b : Bool). unless (cond b none (some (get_or a p 0))) (some w)) e))
+        rw (e, f, z) (ap answer_of (get_or-set_same a p w 0 h) ∙ is ∙ sym (ap (λ (b : Bool). unless (cond b None (Some (get_or a p 0))) (Some w)) e))
     gave_at x true e false f = rw (e, f) (ap answer_of (get_or-set_other a p x w 0 (other x f)) ∙ sym (unless_none (answer_of (get_or a x 0))))
     gave_at x false e true f =
         let z : x ≡ p = eq_of x p f in
@@ -116,10 +127,10 @@ gave a p w h l = record { has = λ x. gave_at x (eqb (get_or a p 0) 4294967295) 
     gave_at x false e false f = rw (e, f) (sym (unless_none (answer_of (get_or a x 0))))
 
 -- one more path is looked at
-pub among_more : (l : List ℕ) (p : ℕ) (f : ℕ → Option ℕ) (x : ℕ) → unless (among l f x) (cond (eqb x p) (f p) none) ≡ among (l ++ (p ∷ [])) f x
-among_more l p f x = go (elem x l) refl (eqb x p) refl ∙ sym (ap (λ (b : Bool). cond b (f x) none) (elem_append x l (p ∷ [])))
+pub among_more : (l : List ℕ) (p : ℕ) (f : ℕ → Option ℕ) (x : ℕ) → unless (among l f x) (cond (eqb x p) (f p) None) ≡ among (l ++ (p ∷ [])) f x
+among_more l p f x = go (elem x l) refl (eqb x p) refl ∙ sym (ap (λ (b : Bool). cond b (f x) None) (elem_append x l (p ∷ [])))
   where
-    go : (a : Bool) → elem x l ≡ a → (b : Bool) → eqb x p ≡ b → unless (cond (elem x l) (f x) none) (cond (eqb x p) (f p) none) ≡ cond (elem x l || (eqb x p || false)) (f x) none
+    go : (a : Bool) → elem x l ≡ a → (b : Bool) → eqb x p ≡ b → unless (cond (elem x l) (f x) None) (cond (eqb x p) (f p) None) ≡ cond (elem x l || (eqb x p || false)) (f x) None
     go true e true g = rw (e, g) (ap (unless (f x)) (ap f (sym (eq_of x p g))) ∙ unless_twice (f x))
     go true e false g = rw (e, g) (unless_none (f x))
     go false e true g = rw (e, g) (ap f (sym (eq_of x p g)))

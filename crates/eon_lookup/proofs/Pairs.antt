@@ -1,13 +1,5 @@
 -- The walk through a map's pairs: what each pair gives the paths, and the steps it takes.
-use mathlib.Core.Path.{◌≡◌, refl, sym, ap, ap₂, ◌∙◌}
-use mathlib.Core.Bool.{Bool, true, false, ◌&&◌, ◌||◌, not, cond}
-use mathlib.Core.List.{List, [], ◌∷◌, ◌++◌}
-use mathlib.Core.Option.{Option, none, some}
-use Prim.Native.Nat.{ℕ, suc, ◌+◌, ◌-◌, ◌≤◌, ◌<◌}
-use native.Mathlib.Omega.{arith}
-use lib.ListN.{length, get_or}
-use lib.Dec.{ltb, eqb}
-use borrow.Author.Tests.{eq-eqb}
+use Rattle.std.proofs.Common.{Option, None, Some, ◌≡◌, refl, sym, ap, ap₂, ◌∙◌, Bool, true, false, ◌&&◌, ◌||◌, not, cond, List, [], ◌∷◌, ◌++◌, ℕ, suc, ◌+◌, ◌-◌, ◌≤◌, ◌<◌, arith, length, get_or, ltb, eqb, eq-eqb}
 use Rattle.eon_spec.specs.Base.{elem}
 use Rattle.eon_spec.specs.Tree.{Slice, TokenTree, TokenValue, KeyValues, tree, identifier, number, quoted_string, list_of, map_of, variant_of, no_pairs, pair}
 use Rattle.eon_spec.specs.Layout.{prefix_of}
@@ -18,20 +10,21 @@ use Rattle.eon_table.specs.Words.{record_of, AfterPrefix}
 use Rattle.eon_table.specs.TreeAt.{kind_of, value_of, TreeAt, ValueAt}
 use Rattle.eon_table.proofs.Walk.{value_kind, tree_value}
 use Rattle.eon_table.proofs.Here.{leaf_text}
-use Rattle.eon_lookup.specs.Keys.{place_of, key_kind, key_here, key_at, keys_from, rest_at, rests, GoesOn, Going}
+use Rattle.eon_lookup.specs.declared.paths.Keys.{Keys}
+use Rattle.eon_lookup.specs.Keys.{no_keys, many, key_kind, key_here, key_at, keys_from, rest_at, rests, GoesOn, Going}
 use Rattle.eon_lookup.specs.Live.{first_some, unless, Gains, among, keep, first_in, matches, ends_at, goes_on, Walked}
-use Rattle.eon_lookup.proofs.Lists.{or_yes, elem_keep, gains_nothing}
+use Rattle.eon_lookup.proofs.Lists.{neither, or_yes, elem_keep, gains_nothing}
 
 -- ---- the key of a tree, by its record
 
 module _ (s tb : List ℕ) where
   abbrev here_as : ℕ → ℕ → Option Key
-  here_as i n = cond (key_kind n) (some (record_text s (record_of tb i))) none
+  here_as i n = cond (key_kind n) (Some (record_text s (record_of tb i))) None
 
   value_key : (i : ℕ) (v : TokenValue) → ValueAt s tb i v → key_in v ≡ key_here s tb i
-  value_key i (identifier b) h = sym (ap (here_as i) (value_kind s tb i (identifier b) h) ∙ ap some (leaf_text s tb i 1 b (unfold ValueAt in h) (λ z. omega arith) (λ z. omega arith)))
+  value_key i (identifier b) h = sym (ap (here_as i) (value_kind s tb i (identifier b) h) ∙ ap Some (leaf_text s tb i 1 b (unfold ValueAt in h) (λ z. omega arith) (λ z. omega arith)))
   value_key i (number b) h = sym (ap (here_as i) (value_kind s tb i (number b) h))
-  value_key i (quoted_string b) h = sym (ap (here_as i) (value_kind s tb i (quoted_string b) h) ∙ ap some (leaf_text s tb i 3 b (unfold ValueAt in h) (λ z. omega arith) (λ z. omega arith)))
+  value_key i (quoted_string b) h = sym (ap (here_as i) (value_kind s tb i (quoted_string b) h) ∙ ap Some (leaf_text s tb i 3 b (unfold ValueAt in h) (λ z. omega arith) (λ z. omega arith)))
   value_key i (list_of vs cl) h = sym (ap (here_as i) (value_kind s tb i (list_of vs cl) h))
   value_key i (map_of kvs cl) h = sym (ap (here_as i) (value_kind s tb i (map_of kvs cl) h))
   value_key i (variant_of n vs cl) h = sym (ap (here_as i) (value_kind s tb i (variant_of n vs cl) h))
@@ -95,14 +88,14 @@ steps_map ps kvs cl e = ap (λ (b : Bool). elim b [ true ↦ steps_in ps kvs | f
 
 -- behind a value that is a map
 abbrev pub inside_first : ℕ → TokenValue → Path → Option ℕ
-inside_first w (identifier b) ks = none
-inside_first w (number b) ks = none
-inside_first w (quoted_string b) ks = none
-inside_first w (list_of vs cl) ks = none
+inside_first w (identifier b) ks = None
+inside_first w (number b) ks = None
+inside_first w (quoted_string b) ks = None
+inside_first w (list_of vs cl) ks = None
 inside_first w (map_of kvs cl) ks = first_in (suc w) kvs ks
-inside_first w (variant_of n vs cl) ks = none
+inside_first w (variant_of n vs cl) ks = None
 
-first_end : (w : ℕ) (v : TokenValue) → first_some (reached_at w v []) ≡ some w
+first_end : (w : ℕ) (v : TokenValue) → first_some (reached_at w v []) ≡ Some w
 unfolding reached
 first_end w (identifier b) = refl
 first_end w (number b) = refl
@@ -120,7 +113,7 @@ first_on w (list_of vs cl) k ks = refl
 first_on w (map_of kvs cl) k ks = refl
 first_on w (variant_of n vs cl) k ks = refl
 
-pub first_other : (w : ℕ) (v : TokenValue) (ks : Path) → (kind_of v ≡ 5 → ⊥) → inside_first w v ks ≡ none
+pub first_other : (w : ℕ) (v : TokenValue) (ks : Path) → (kind_of v ≡ 5 → ⊥) → inside_first w v ks ≡ None
 first_other w (identifier b) ks h = refl
 first_other w (number b) ks h = refl
 first_other w (quoted_string b) ks h = refl
@@ -136,21 +129,21 @@ first_append : (a b : List ℕ) → first_some (a ++ b) ≡ unless (first_some a
 first_append [] b = refl
 first_append (x ∷ a) b = refl
 
-pub no_first : (n : ℕ) (ks : Path) → first_in n no_pairs ks ≡ none
+pub no_first : (n : ℕ) (ks : Path) → first_in n no_pairs ks ≡ None
 unfolding reached
 no_first n [] = refl
 no_first n (k ∷ ks) = refl
 
 -- a pair that a path's first key names, or not, and those behind it
 first_pair : (n w : ℕ) (key val : TokenTree) (kvs : KeyValues) (k : Key) (ks : Path) → w ≡ n + count key + length (prefix_of val)
-    → first_in n (pair key val kvs) (k ∷ ks) ≡ unless (cond (is_key k (key_of key)) (first_some (reached_at w (value_of val) ks)) none) (first_in (n + count key + count val) kvs (k ∷ ks))
+    → first_in n (pair key val kvs) (k ∷ ks) ≡ unless (cond (is_key k (key_of key)) (first_some (reached_at w (value_of val) ks)) None) (first_in (n + count key + count val) kvs (k ∷ ks))
 unfolding reached
 first_pair n w key val kvs k ks e = go (is_key k (key_of key))
   where
     rest : List ℕ
     rest = reached_in (n + count key + count val) kvs k ks
 
-    go : (b : Bool) → first_some (elim b [ true ↦ reached (n + count key) val ks | false ↦ [] ] ++ rest) ≡ unless (cond b (first_some (reached_at w (value_of val) ks)) none) (first_some rest)
+    go : (b : Bool) → first_some (elim b [ true ↦ reached (n + count key) val ks | false ↦ [] ] ++ rest) ≡ unless (cond b (first_some (reached_at w (value_of val) ks)) None) (first_some rest)
     go true =
         first_append (reached (n + count key) val ks) rest
         ∙ ap (λ (l : List ℕ). unless (first_some l) (first_some rest)) (reached_tree (n + count key) val ks ∙ ap (λ (m : ℕ). reached_at m (value_of val) ks) (sym e))
@@ -158,65 +151,64 @@ first_pair n w key val kvs k ks e = go (is_key k (key_of key))
 
 -- ---- the paths behind d keys
 
-module _ (q keys : List ℕ) where
+module _ (q : List ℕ) (paths : List Keys) where
   abbrev rest : ℕ → ℕ → Path
-  rest = rest_at q keys
+  rest = rest_at q paths
 
   abbrev all : ℕ → List ℕ → List Path
-  all = rests q keys
+  all = rests q paths
 
-  pub rest_step : (d p : ℕ) → d < get_or keys p 0 → rest d p ≡ key_at q keys (place_of p d) ∷ rest (d + 1) p
+  pub rest_step : (d p : ℕ) → d < many paths p → rest d p ≡ key_at q paths p d ∷ rest (d + 1) p
   unfolding keys_from
   rest_step d p h =
-      let e : get_or keys p 0 - d ≡ suc (get_or keys p 0 - (d + 1)) = omega arith in
-      let f : place_of p d + 2 ≡ place_of p (d + 1) = omega arith in
-      ap (keys_from q keys (place_of p d)) e ∙ ap (λ (m : ℕ). key_at q keys (place_of p d) ∷ keys_from q keys m (get_or keys p 0 - (d + 1))) f
+      let e : many paths p - d ≡ suc (many paths p - (d + 1)) = omega arith in
+      ap (keys_from q (get_or paths p no_keys).places d) e
 
-  rest_end : (d p : ℕ) → get_or keys p 0 ≤ d → rest d p ≡ []
+  rest_end : (d p : ℕ) → many paths p ≤ d → rest d p ≡ []
   unfolding keys_from
   rest_end d p h =
-      let e : get_or keys p 0 - d ≡ 0 = omega arith in
-      ap (keys_from q keys (place_of p d)) e
+      let e : many paths p - d ≡ 0 = omega arith in
+      ap (keys_from q (get_or paths p no_keys).places d) e
 
-  going_tail : (d p : ℕ) (live : List ℕ) → Going keys d (p ∷ live) → Going keys d live
+  going_tail : (d p : ℕ) (live : List ℕ) → Going paths d (p ∷ live) → Going paths d live
   going_tail d p live g x e = g x (ap (λ (b : Bool). eqb x p || b) e ∙ or_yes (eqb x p))
 
-  going_head : (d p : ℕ) (live : List ℕ) → Going keys d (p ∷ live) → GoesOn keys d p
+  going_head : (d p : ℕ) (live : List ℕ) → Going paths d (p ∷ live) → GoesOn paths d p
   going_head d p live g = g p (ap (λ (b : Bool). b || elem p live) (eq-eqb p p refl))
 
-  pub some_rests : (d : ℕ) (live : List ℕ) → Going keys d live → 0 < length live → some_left (all d live) ≡ true
+  pub some_rests : (d : ℕ) (live : List ℕ) → Going paths d live → 0 < length live → some_left (all d live) ≡ true
   some_rests d [] g h = absurd (omega arith)
   some_rests d (p ∷ live) g h = ap (λ (r : Path). some_left (r ∷ all d live)) (rest_step d p (going_head d p live g).more)
 
   module _ (d : ℕ) (key : Option Key) where
     abbrev on : ℕ → Bool
-    on = goes_on q keys d key
+    on = goes_on q paths d key
 
-    going_keep : (live : List ℕ) → Going keys d live → Going keys (d + 1) (keep on live)
+    going_keep : (live : List ℕ) → Going paths d live → Going paths (d + 1) (keep on live)
     going_keep live g p e =
         let a : elem p live && on p ≡ true = sym (elem_keep on live p) ∙ e in
-        let h : GoesOn keys d p = g p (and_left (elem p live) (on p) a) in
-        record { small = h.small; more = lt_of (d + 1) (get_or keys p 0) (and_right (matches q keys d key p) (ltb (d + 1) (get_or keys p 0)) (and_right (elem p live) (on p) a)); few = h.few }
+        let h : GoesOn paths d p = g p (and_left (elem p live) (on p) a) in
+        record { small = h.small; there = h.there; more = lt_of (d + 1) (many paths p) (and_right (matches q paths d key p) (ltb (d + 1) (many paths p)) (and_right (elem p live) (on p) a)); few = h.few }
 
-    alive_onward : (live : List ℕ) → Going keys d live → alive (onward key (all d live)) ≡ all (d + 1) (keep on live)
+    alive_onward : (live : List ℕ) → Going paths d live → alive (onward key (all d live)) ≡ all (d + 1) (keep on live)
     alive_onward [] g = refl
     alive_onward (p ∷ live) g =
         ap (λ (r : Path). alive (onward key (r ∷ all d live))) (rest_step d p (going_head d p live g).more)
-        ∙ go (matches q keys d key p) (ltb (d + 1) (get_or keys p 0)) refl (alive_onward live (going_tail d p live g))
+        ∙ go (matches q paths d key p) (ltb (d + 1) (many paths p)) refl (alive_onward live (going_tail d p live g))
       where
         others : List Path
         others = onward key (all d live)
 
-        go : (a b : Bool) → ltb (d + 1) (get_or keys p 0) ≡ b → alive (onward key (all d live)) ≡ all (d + 1) (keep on live)
+        go : (a b : Bool) → ltb (d + 1) (many paths p) ≡ b → alive (onward key (all d live)) ≡ all (d + 1) (keep on live)
             → alive (cond a (rest (d + 1) p ∷ onward key (all d live)) (onward key (all d live))) ≡ all (d + 1) (cond (a && b) (p ∷ keep on live) (keep on live))
         go true true f h =
-            let e = rest_step (d + 1) p (lt_of (d + 1) (get_or keys p 0) f) in
+            let e = rest_step (d + 1) p (lt_of (d + 1) (many paths p) f) in
             ap (λ (r : Path). alive (r ∷ onward key (all d live))) e ∙ ap₂ (λ (r : Path) (l : List Path). r ∷ l) (sym e) h
-        go true false f h = ap (λ (r : Path). alive (r ∷ onward key (all d live))) (rest_end (d + 1) p (le_of_not (d + 1) (get_or keys p 0) f)) ∙ h
+        go true false f h = ap (λ (r : Path). alive (r ∷ onward key (all d live))) (rest_end (d + 1) p (le_of_not (d + 1) (many paths p) f)) ∙ h
         go false b f h = h
 
-    module _ (live : List ℕ) (g : Going keys d live) where
-      pub on_going : Going keys (d + 1) (keep on live)
+    module _ (live : List ℕ) (g : Going paths d live) where
+      pub on_going : Going paths (d + 1) (keep on live)
       on_going = going_keep live g
 
       -- what the value behind the key gives and costs: record w, from its answers on to others
@@ -233,20 +225,16 @@ module _ (q keys : List ℕ) where
             gains = gains_nothing (λ p. ap (λ (l : List ℕ). among l (λ p. inside_first w v (rest (d + 1) p)) p) e);
           }
 
-      no : (b : Bool) → ◌≡◌ {A = Option ℕ} (cond b none none) none
-      no true = refl
-      no false = refl
-
       pub inner_other : (w : ℕ) (v : TokenValue) (a : List ℕ) → length a ≡ 128 → (kind_of v ≡ 5 → ⊥) → Inner w v a a 0
       inner_other w v a z e =
           record {
             steps = sym (steps_other (onward key (all d live)) v e);
             size = z;
-            gains = gains_nothing (λ p. ap (λ (o : Option ℕ). cond (elem p (keep on live)) o none) (first_other w v (rest (d + 1) p) e) ∙ no (elem p (keep on live)));
+            gains = gains_nothing (λ p. ap (λ (o : Option ℕ). cond (elem p (keep on live)) o None) (first_other w v (rest (d + 1) p) e) ∙ neither (elem p (keep on live)));
           }
 
       pub inner_map : (w : ℕ) (kvs : KeyValues) (cl : List Slice) (old answers : List ℕ) (r : ℕ) → 0 < length (keep on live)
-          → Walked q keys (d + 1) (keep on live) (suc w) kvs old answers r → Inner w (map_of kvs cl) old answers r
+          → Walked q paths (d + 1) (keep on live) (suc w) kvs old answers r → Inner w (map_of kvs cl) old answers r
       inner_map w kvs cl old answers r h t =
           let ps = onward key (all d live) in
           record {
@@ -257,14 +245,14 @@ module _ (q keys : List ℕ) where
 
       -- a pair gives what its value gives, and then what is behind it
       pub pair_gives : (n w : ℕ) (kt val : TokenTree) (kvs : KeyValues) → key_of kt ≡ key → w ≡ n + count kt + length (prefix_of val) → (p : ℕ)
-          → unless (unless (among live (ends_at q keys d key w) p) (among (keep on live) (λ x. inside_first w (value_of val) (rest (d + 1) x)) p)) (among live (λ x. first_in (n + count kt + count val) kvs (rest d x)) p)
+          → unless (unless (among live (ends_at q paths d key w) p) (among (keep on live) (λ x. inside_first w (value_of val) (rest (d + 1) x)) p)) (among live (λ x. first_in (n + count kt + count val) kvs (rest d x)) p)
           ≡ among live (λ x. first_in n (pair kt val kvs) (rest d x)) p
       pair_gives n w kt val kvs ke we p =
-          ap (λ (b : Bool). unless (unless (among live (ends_at q keys d key w) p) (cond b (inside_first w (value_of val) (rest (d + 1) p)) none)) (among live (λ x. first_in (n + count kt + count val) kvs (rest d x)) p)) (elem_keep on live p)
+          ap (λ (b : Bool). unless (unless (among live (ends_at q paths d key w) p) (cond b (inside_first w (value_of val) (rest (d + 1) p)) None)) (among live (λ x. first_in (n + count kt + count val) kvs (rest d x)) p)) (elem_keep on live p)
           ∙ go (elem p live) refl
         where
           k : Key
-          k = key_at q keys (place_of p d)
+          k = key_at q paths p d
 
           later : Option ℕ
           later = first_in (n + count kt + count val) kvs (rest d p)
@@ -272,24 +260,24 @@ module _ (q keys : List ℕ) where
           here : Option ℕ
           here = inside_first w (value_of val) (rest (d + 1) p)
 
-          by : (a b : Bool) → ltb (d + 1) (get_or keys p 0) ≡ b
-              → unless (unless (cond (a && not b) (some w) none) (cond (a && b) (inside_first w (value_of val) (rest (d + 1) p)) none)) (first_in (n + count kt + count val) kvs (rest d p))
-              ≡ unless (cond a (first_some (reached_at w (value_of val) (rest (d + 1) p))) none) (first_in (n + count kt + count val) kvs (rest d p))
+          by : (a b : Bool) → ltb (d + 1) (many paths p) ≡ b
+              → unless (unless (cond (a && not b) (Some w) None) (cond (a && b) (inside_first w (value_of val) (rest (d + 1) p)) None)) (first_in (n + count kt + count val) kvs (rest d p))
+              ≡ unless (cond a (first_some (reached_at w (value_of val) (rest (d + 1) p))) None) (first_in (n + count kt + count val) kvs (rest d p))
           by true true f =
-              let e = rest_step (d + 1) p (lt_of (d + 1) (get_or keys p 0) f) in
+              let e = rest_step (d + 1) p (lt_of (d + 1) (many paths p) f) in
               ap (λ (o : Option ℕ). unless o (first_in (n + count kt + count val) kvs (rest d p)))
-              (ap (inside_first w (value_of val)) e ∙ sym (ap (λ (r : Path). first_some (reached_at w (value_of val) r)) e ∙ first_on w (value_of val) (key_at q keys (place_of p (d + 1))) (rest (d + 1 + 1) p)))
+              (ap (inside_first w (value_of val)) e ∙ sym (ap (λ (r : Path). first_some (reached_at w (value_of val) r)) e ∙ first_on w (value_of val) (key_at q paths p (d + 1)) (rest (d + 1 + 1) p)))
           by true false f =
-              let e = rest_end (d + 1) p (le_of_not (d + 1) (get_or keys p 0) f) in
+              let e = rest_end (d + 1) p (le_of_not (d + 1) (many paths p) f) in
               ap (λ (o : Option ℕ). unless o (first_in (n + count kt + count val) kvs (rest d p))) (sym (ap (λ (r : Path). first_some (reached_at w (value_of val) r)) e ∙ first_end w (value_of val)))
           by false b f = refl
 
           go : (c : Bool) → elem p live ≡ c
-              → unless (unless (cond (elem p live) (ends_at q keys d key w p) none) (cond (elem p live && on p) (inside_first w (value_of val) (rest (d + 1) p)) none)) (cond (elem p live) (first_in (n + count kt + count val) kvs (rest d p)) none)
-              ≡ cond (elem p live) (first_in n (pair kt val kvs) (rest d p)) none
+              → unless (unless (cond (elem p live) (ends_at q paths d key w p) None) (cond (elem p live && on p) (inside_first w (value_of val) (rest (d + 1) p)) None)) (cond (elem p live) (first_in (n + count kt + count val) kvs (rest d p)) None)
+              ≡ cond (elem p live) (first_in n (pair kt val kvs) (rest d p)) None
           go true e =
               let s = rest_step d p (g p e).more in
-              rw e (by (matches q keys d key p) (ltb (d + 1) (get_or keys p 0)) refl
-              ∙ sym (ap (first_in n (pair kt val kvs)) s ∙ first_pair n w kt val kvs (key_at q keys (place_of p d)) (rest (d + 1) p) we
-              ∙ ap₂ (λ (b : Option Key) (r : Path). unless (cond (is_key (key_at q keys (place_of p d)) b) (first_some (reached_at w (value_of val) (rest (d + 1) p))) none) (first_in (n + count kt + count val) kvs r)) ke (sym s)))
+              rw e (by (matches q paths d key p) (ltb (d + 1) (many paths p)) refl
+              ∙ sym (ap (first_in n (pair kt val kvs)) s ∙ first_pair n w kt val kvs (key_at q paths p d) (rest (d + 1) p) we
+              ∙ ap₂ (λ (b : Option Key) (r : Path). unless (cond (is_key (key_at q paths p d) b) (first_some (reached_at w (value_of val) (rest (d + 1) p))) None) (first_in (n + count kt + count val) kvs r)) ke (sym s)))
           go false e = rw e

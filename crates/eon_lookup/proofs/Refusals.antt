@@ -1,15 +1,9 @@
 -- Which numbers refuse a lookup: those of the event and its table, then those of the path text and its table, then 28. A refusal hands back
 -- 128 times 'none'.
-use mathlib.Core.Path.{◌≡◌, refl, sym, ap, ap₂}
-use mathlib.Core.Logic.{◌⊎◌, inl, inr}
-use mathlib.Core.List.{List, [], ◌∷◌}
-use mathlib.Core.Option.{Option, none, some}
-use Prim.Native.Nat.{ℕ, zero, suc}
-use lib.ListN.{replicate}
-use Rattle.eon_spec.specs.declared.Refusal.{Refusal}
+use Rattle.std.proofs.Common.{Option, None, Some, Result, Ok, Err, ◌≡◌, refl, sym, ap, ap₂, ◌∙◌, ◌⊎◌, inl, inr, List, [], ◌∷◌, ℕ, zero, suc, replicate}
+use Rattle.eon_spec.specs.Refused.{Refusal, refusal_of}
+use Rattle.eon_spec.specs.declared.refusal.Refusal as refusal
 use Rattle.eon_spec.specs.declared.Found.{Found}
-use Rattle.eon_spec.specs.declared.Answer.{Answer}
-use Rattle.eon_spec.specs.declared.Answer.TheVariants as answer
 use Rattle.eon_spec.specs.Tree.{TokenTree}
 use Rattle.eon_spec.specs.Calls.{Outcome, done, refused_with, nowhere, then, or_refused, outcome_of, read_finished}
 use Rattle.eon_spec.specs.Lookup.{paths_max, none_word, Path, Looked, path_list, looked, lookup_call, SomeOfEach, IsLookup}
@@ -26,8 +20,8 @@ module _ (s sTable q qTable : List ℕ) (r : Refusal) where
       behind t u = then (or_refused 28 (path_list u)) λ ps. done (looked t ps)
 
       by_form : (t : TokenTree) (o : Option (List Path)) → then (or_refused 28 o) (λ ps. done (looked t ps)) ≡ refused_with r → r ≡ nowhere 28
-      by_form t none f = let z : nowhere 28 ≡ r = cc in sym z
-      by_form t (some ps) f = answers_not (looked t ps) r f
+      by_form t None f = let z : nowhere 28 ≡ r = cc in sym z
+      by_form t (Some ps) f = answers_not (looked t ps) r f
 
       paths : (t : TokenTree) → OfTable r ⊎ ((u : TokenTree) × (read_finished q qTable ≡ done u) × (behind t u ≡ refused_with r)) → OfTable r ⊎ (r ≡ nowhere 28)
       paths t (inl n) = inl n
@@ -44,9 +38,22 @@ none_each zero (w ∷ ws) h = absurd h
 none_each (suc k) [] h = absurd h
 none_each (suc k) (w ∷ ws) h = ap₂ ◌∷◌ h.0 (none_each k ws h.1)
 
-refused_by_lem : (a : Answer) (r : Refusal) → outcome_of a ≡ refused_with r → a ≡ answer.Refused r
-refused_by_lem (answer.Done n) r e = answers_not n r e
-refused_by_lem (answer.Refused q) r e = let z : q ≡ r = cc in ap answer.Refused z
+-- the program's refusal says the paper's
+pub record LeavesNone (r : Refusal) (f : Found) : Type 0 where
+  pub refusal : refusal.Refusal
+  pub says : refusal_of refusal ≡ r
+  pub is : f ≡ record { answer = Err refusal; answers = replicate paths_max none_word }
 
-pub refusal_leaves : (r : Refusal) (f : Found) → IsLookup (refused_with r) f → f ≡ record { answer = answer.Refused r; answers = replicate paths_max none_word }
-refusal_leaves r f h = ap₂ (λ (a : Answer) (ws : List ℕ). record { answer = a; answers = ws }) (refused_by_lem f.answer r h.counts) (none_each paths_max f.answers h.finds)
+pub refusal_leaves : (r : Refusal) (f : Found) → IsLookup (refused_with r) f → LeavesNone r f
+refusal_leaves r f h = go f.answer refl
+  where
+    go : (a : Result ℕ refusal.Refusal) → f.answer ≡ a → LeavesNone r f
+    go (Ok n) e = answers_not n r (sym (ap outcome_of e) ∙ h.counts)
+    go (Err q) e =
+        let z : refused_with (refusal_of q) ≡ refused_with r = sym (ap outcome_of e) ∙ h.counts in
+        let w : refusal_of q ≡ r = cc in
+        record {
+          refusal = q;
+          says = w;
+          is = ap₂ (λ (a : Result ℕ refusal.Refusal) (ws : List ℕ). record { answer = a; answers = ws }) e (none_each paths_max f.answers h.finds);
+        }

@@ -1,23 +1,17 @@
 -- What the walk's answers are as the call hands them back, and the order of the refusals.
-use mathlib.Core.Path.{◌≡◌, refl, sym, ap, ap₂, ◌∙◌}
-use mathlib.Core.Bool.{Bool, true, false, cond}
-use mathlib.Core.List.{List, [], ◌∷◌, ◌++◌}
-use mathlib.Core.Option.{Option, none, some}
-use Prim.Native.Nat.{ℕ, zero, suc, ◌+◌, ◌-◌, ◌≤◌, ◌<◌}
-use native.Mathlib.Omega.{arith}
-use native.Mathlib.Decide.{dec_lt}
-use lib.ListN.{length, get_or, replicate, length-append, length-replicate, get_or-append}
-use lib.Seq.{get_or-append-add}
-use lib.Dec.{eqb}
+use Rattle.std.proofs.Common.{Option, None, Some, Result, Ok, Err, ◌≡◌, refl, sym, ap, ap₂, ◌∙◌, subst, Bool, true, false, cond, List, [], ◌∷◌, ◌++◌, ℕ, zero, suc, ◌+◌, ◌-◌, ◌≤◌, ◌<◌, arith, length, get_or, replicate, length-append, get_or-append-add, eqb}
+use Rattle.std.proofs.Math.ListN.{length-replicate, get_or-append}
+use Rattle.std.proofs.Math.Decide.{dec_lt}
 use Rattle.eon_spec.specs.Base.{elem}
 use Rattle.eon_spec.specs.Tree.{TokenTree}
-use Rattle.eon_spec.specs.declared.Refusal.{Refusal}
-use Rattle.eon_spec.specs.declared.Answer.TheVariants as answer
-use Rattle.eon_spec.specs.Calls.{Outcome, done, refused_with, then, or_refused, nowhere, read_finished}
-use Rattle.eon_spec.specs.Lookup.{paths_max, none_word, Path, Looked, path_list, reached, reached_by_each, looked, lookup_call, SomeOf, SomeOfEach, IsLookup}
+use Rattle.eon_spec.specs.Refused.{Refusal, refusal_of}
+use Rattle.eon_spec.specs.declared.refusal.Refusal as refusal
+use Rattle.eon_spec.specs.Calls.{Outcome, done, refused_with, then, or_refused, nowhere, read_finished, outcome_of}
+use Rattle.eon_spec.specs.Lookup.{paths_max, none_word, Path, Looked, path_list, reached, reached_by_each, looked, lookup_call, steps_of, entries_of, SomeOf, SomeOfEach, IsLookup}
 use Rattle.eon_laws.proofs.Facts.{clash, eqb_same, eq_of}
 use Rattle.eon_table.proofs.Finished.{finished_refused}
 use Rattle.eon_parse.specs.Call.{count_of}
+use Rattle.eon_lookup.specs.declared.paths.Keys.{Keys}
 use Rattle.eon_lookup.specs.Keys.{below, rest_at, rests}
 use Rattle.eon_lookup.specs.Live.{first_some, answer_of, unless, among, Looks}
 use Rattle.eon_lookup.proofs.Lists.{below_length, in_below, all_below}
@@ -25,16 +19,16 @@ use Rattle.eon_lookup.proofs.Forms.{rests_length}
 
 -- ---- a word that is the first of the values reached is some of them
 
-some_inj : (a b : ℕ) → some a ≡ some b → a ≡ b
+some_inj : (a b : ℕ) → Some a ≡ Some b → a ≡ b
 some_inj a b e = cc
 
-some_none : {A : Type 0} (a : ℕ) → ◌≡◌ {A = Option ℕ} (some a) none → A
+some_none : {A : Type 0} (a : ℕ) → ◌≡◌ {A = Option ℕ} (Some a) None → A
 some_none a e = absurd (let z : ◌≡◌ {A = ℕ} 0 1 = cc in omega arith)
 
 word_some : (ns : List ℕ) (w : ℕ) → answer_of w ≡ first_some ns → SomeOf ns w
 word_some ns w e = go ns (eqb w none_word) refl e
   where
-    go : (ns : List ℕ) (b : Bool) → eqb w none_word ≡ b → cond b none (some w) ≡ first_some ns → SomeOf ns w
+    go : (ns : List ℕ) (b : Bool) → eqb w none_word ≡ b → cond b None (Some w) ≡ first_some ns → SomeOf ns w
     go [] true p e = eq_of w none_word p
     go [] false p e = some_none w e
     go (n ∷ ns) true p e = some_none n (sym e)
@@ -65,13 +59,13 @@ nothing_at zero p = refl
 nothing_at (suc n) zero = refl
 nothing_at (suc n) (suc p) = nothing_at n p
 
-none_at : (n p : ℕ) → p < n → answer_of (get_or (replicate {A = ℕ} n none_word) p 0) ≡ none
+none_at : (n p : ℕ) → p < n → answer_of (get_or (replicate {A = ℕ} n none_word) p 0) ≡ None
 none_at zero p h = absurd (omega arith)
 none_at (suc n) zero h = refl
 none_at (suc n) (suc p) h = none_at n p (omega arith)
 
-module _ (q keys : List ℕ) (t : TokenTree) where
-  each_at : (l : List ℕ) (p : ℕ) → p < length l → get_or (reached_by_each t (rests q keys 0 l)) p [] ≡ reached 0 t (rest_at q keys 0 (get_or l p 0))
+module _ (q : List ℕ) (paths : List Keys) (t : TokenTree) where
+  each_at : (l : List ℕ) (p : ℕ) → p < length l → get_or (reached_by_each t (rests q paths 0 l)) p [] ≡ reached 0 t (rest_at q paths 0 (get_or l p 0))
   each_at [] p h = absurd (omega arith)
   each_at (x ∷ l) zero h = refl
   each_at (x ∷ l) (suc p) h = each_at l p (omega arith)
@@ -86,12 +80,12 @@ below_at (suc n) p h = go (dec_lt p n) (below_at n p)
         let e : p ≡ length (below n) + 0 = omega (arith, below_length n) in
         ap (λ (m : ℕ). get_or (below n ++ (n ∷ [])) m 0) e ∙ get_or-append-add (below n) (n ∷ []) 0 0 ∙ omega arith
 
-module _ (q keys : List ℕ) (t : TokenTree) (n : ℕ) (few : n ≤ paths_max) where
+module _ (q : List ℕ) (paths : List Keys) (t : TokenTree) (n : ℕ) (few : n ≤ paths_max) where
   abbrev ps : List Path
-  ps = rests q keys 0 (below n)
+  ps = rests q paths 0 (below n)
 
   pub ps_length : length ps ≡ n
-  ps_length = rests_length q keys 0 (below n) ∙ below_length n
+  ps_length = rests_length q paths 0 (below n) ∙ below_length n
 
   abbrev all : List (List ℕ)
   all = reached_by_each t ps ++ replicate (paths_max - length ps) []
@@ -100,18 +94,18 @@ module _ (q keys : List ℕ) (t : TokenTree) (n : ℕ) (few : n ≤ paths_max) w
   each_many = each_length t ps ∙ ps_length
 
   abbrev first : ℕ → Option ℕ
-  first p = first_some (reached 0 t (rest_at q keys 0 p))
+  first p = first_some (reached 0 t (rest_at q paths 0 p))
 
   -- an entry's first value is what the walk gives its path
   all_at : (p : ℕ) → first_some (get_or all p []) ≡ among (below n) first p
   all_at p = go (elem p (below n)) refl
     where
-      go : (b : Bool) → elem p (below n) ≡ b → first_some (get_or all p []) ≡ cond b (first p) none
+      go : (b : Bool) → elem p (below n) ≡ b → first_some (get_or all p []) ≡ cond b (first p) None
       go true e =
           let h : p < n = in_below n p e in
           ap first_some
           (get_or-append (reached_by_each t ps) (replicate (paths_max - length ps) []) [] p (omega (arith, each_many))
-          ∙ each_at q keys t (below n) p (omega (arith, below_length n)))
+          ∙ each_at q paths t (below n) p (omega (arith, below_length n)))
           ∙ ap first (below_at n p h)
       go false e =
           let m = p - length (reached_by_each t ps) in
@@ -125,7 +119,7 @@ module _ (q keys : List ℕ) (t : TokenTree) (n : ℕ) (few : n ≤ paths_max) w
           behind (no d) = omega arith
 
   -- the walk's answers are some of the values reached
-  pub found_is : (answers : List ℕ) (r : ℕ) → Looks q keys (below n) t (replicate paths_max none_word) answers r → IsLookup (done (looked t ps)) (record { answer = answer.Done r; answers = answers })
+  pub found_is : (answers : List ℕ) (r : ℕ) → Looks q paths (below n) t (replicate paths_max none_word) answers r → IsLookup (done (looked t ps)) (record { answer = Ok r; answers = answers })
   unfolding looked
   found_is answers r h = record { counts = ap done h.steps; finds = each_some all answers (many ∙ sym h.size) each }
     where
@@ -144,8 +138,12 @@ none_each : (k : ℕ) → SomeOfEach (replicate k []) (replicate k none_word)
 none_each zero = tt
 none_each (suc k) = (refl, none_each k)
 
-pub refusal_is : (r : Refusal) → IsLookup (refused_with r) (record { answer = answer.Refused r; answers = replicate paths_max none_word })
-refusal_is r = record { counts = refl; finds = none_each paths_max }
+pub refusal_is : {o : Outcome Looked} {a : Result ℕ refusal.Refusal} {ws : List ℕ} (r : refusal.Refusal) → o ≡ refused_with (refusal_of r) → a ≡ Err r → ws ≡ replicate paths_max none_word → IsLookup o (record { answer = a; answers = ws })
+refusal_is {o} {a} {ws} r e f g =
+    record {
+      counts = ap outcome_of f ∙ ap steps_of (sym e);
+      finds = subst (λ (x : Outcome Looked). SomeOfEach (entries_of x) ws) (sym e) (subst (SomeOfEach (replicate paths_max [])) (sym g) (none_each paths_max));
+    }
 
 -- ---- the call
 
@@ -167,8 +165,8 @@ module _ (s st q tq : List ℕ) where
       unfolding lookup_call
       behind_both o e = ap₂ outcome h k ∙ ap (λ (o : Option (List Path)). then (or_refused 28 o) (λ ps. done (looked t ps))) e
 
-      pub form_refused : path_list u ≡ none → lookup_call s st q tq ≡ refused_with (nowhere 28)
-      form_refused e = behind_both none e
+      pub form_refused : path_list u ≡ None → lookup_call s st q tq ≡ refused_with (nowhere 28)
+      form_refused e = behind_both None e
 
-      pub looked_up : (ps : List Path) → path_list u ≡ some ps → lookup_call s st q tq ≡ done (looked t ps)
-      looked_up ps e = behind_both (some ps) e
+      pub looked_up : (ps : List Path) → path_list u ≡ Some ps → lookup_call s st q tq ≡ done (looked t ps)
+      looked_up ps e = behind_both (Some ps) e

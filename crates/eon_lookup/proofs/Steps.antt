@@ -1,12 +1,6 @@
 -- The steps are no more than the records, and they are those of the sentence: the root and, in each map that a proper front of some path
 -- reaches, every key and value, each once.
-use mathlib.Core.Path.{◌≡◌, refl, sym, ◌∙◌, ap, ap₂}
-use mathlib.Core.Bool.{Bool, true, false, ◌&&◌, ◌||◌}
-use mathlib.Core.List.{List, [], ◌∷◌, ◌++◌}
-use Prim.Native.Nat.{ℕ, suc, ◌+◌, ◌≤◌, ◌<◌}
-use native.Mathlib.Omega.{arith}
-use lib.ListN.{length, length-append}
-use lib.Dec.{eqb}
+use Rattle.std.proofs.Common.{◌≡◌, refl, sym, ◌∙◌, ap, ap₂, Bool, true, false, ◌&&◌, ◌||◌, List, [], ◌∷◌, ◌++◌, ℕ, suc, ◌+◌, ◌≤◌, ◌<◌, arith, length, length-append, eqb}
 use Rattle.eon_spec.specs.Base.{elem}
 use Rattle.eon_spec.specs.Tree.{Slice, TokenTree, TokenValue, KeyValues, tree, identifier, number, quoted_string, list_of, map_of, variant_of, no_pairs, pair}
 use Rattle.eon_spec.specs.Records.{tree_records}

@@ -1,12 +1,5 @@
 -- On the way through a map's pairs: what is left, what was counted, and what the paths have.
-use mathlib.Core.Path.{◌≡◌, refl, sym, ap, ◌∙◌}
-use mathlib.Core.Bool.{Bool, true, false, cond}
-use mathlib.Core.List.{List}
-use mathlib.Core.Option.{Option, none}
-use Prim.Native.Nat.{ℕ, suc, ◌+◌, ◌≤◌, ◌<◌}
-use native.Mathlib.Omega.{arith}
-use lib.ListN.{length, get_or}
-use lib.Seq.{length-take-le}
+use Rattle.std.proofs.Common.{Option, None, ◌≡◌, refl, sym, ap, ◌∙◌, true, false, cond, List, ℕ, suc, ◌+◌, ◌≤◌, ◌<◌, arith, length, get_or, length-take-le}
 use Rattle.eon_spec.specs.Base.{elem}
 use Rattle.eon_spec.specs.Tree.{Slice, TokenTree, TokenValue, KeyValues, tree, no_pairs, pair}
 use Rattle.eon_spec.specs.Layout.{prefix_of}
@@ -17,9 +10,10 @@ use Rattle.eon_table.specs.Words.{more_at, AfterPrefix}
 use Rattle.eon_table.specs.TreeAt.{value_of, ValueAt, PairedAt, NextAt, SomeTree}
 use Rattle.eon_table.proofs.Walk.{tree_pos, tree_value, tree_head}
 use Rattle.eon_table.proofs.Here.{Entry, entry, no_entry}
+use Rattle.eon_lookup.specs.declared.paths.Keys.{Keys}
 use Rattle.eon_lookup.specs.Keys.{key_here, rest_at, rests, Going}
 use Rattle.eon_lookup.specs.Live.{answer_of, unless, Gains, among, keep, first_in, ends_at, goes_on, KeyMatched, Walked}
-use Rattle.eon_lookup.proofs.Lists.{unless_assoc, unless_none, gains_then}
+use Rattle.eon_lookup.proofs.Lists.{neither, unless_assoc, unless_none, gains_then}
 use Rattle.eon_lookup.proofs.Pairs.{key_here_lem, steps_tree, no_first, inside_first, Inner, pair_gives}
 
 pub tree_parts : (t : TokenTree) → length (prefix_of t) + value_size (value_of t) ≤ tree_size t
@@ -38,12 +32,12 @@ pairs_two : (k v : TokenTree) (kvs : KeyValues) → pairs_size (pair k v kvs) �
 unfolding pairs_size
 pairs_two k v kvs = refl
 
-module _ (s tb : List ℕ) (end : ℕ) (q keys : List ℕ) (d : ℕ) (live : List ℕ) where
+module _ (s tb : List ℕ) (end : ℕ) (q : List ℕ) (paths : List Keys) (d : ℕ) (live : List ℕ) where
   abbrev ps : List Path
-  ps = rests q keys d live
+  ps = rests q paths d live
 
   abbrev pub gives : ℕ → KeyValues → ℕ → Option ℕ
-  gives n kvs = among live (λ x. first_in n kvs (rest_at q keys d x))
+  gives n kvs = among live (λ x. first_in n kvs (rest_at q paths d x))
 
   pub record Through (kvs : KeyValues) (cl : List Slice) (base : ℕ) (old answers : List ℕ) (j n : ℕ) : Type 0 where
     pub left : KeyValues
@@ -54,12 +48,8 @@ module _ (s tb : List ℕ) (end : ℕ) (q keys : List ℕ) (d : ℕ) (live : Lis
   pub through_start : (kvs : KeyValues) (cl : List Slice) (base : ℕ) (old : List ℕ) → PairedAt s tb end base kvs cl → Through kvs cl base old old base 0
   through_start kvs cl base old h = record { left = kvs; inside = h; steps = omega arith; gains = λ p. refl }
 
-  no : (b : Bool) → ◌≡◌ {A = Option ℕ} (cond b none none) none
-  no true = refl
-  no false = refl
-
   pub through_end : (kvs : KeyValues) (cl : List Slice) (base : ℕ) (old answers : List ℕ) (j n : ℕ) → Through kvs cl base old answers j n → more_at tb end j ≡ false → length answers ≡ 128
-      → Walked q keys d live base kvs old answers n
+      → Walked q paths d live base kvs old answers n
   through_end kvs cl base old answers j n t m z =
       let e : t.left ≡ no_pairs = no_entry t.inside m in
       let a : steps_in ps t.left ≡ 0 = ap (steps_in ps) e ∙ steps_none ps in
@@ -70,91 +60,98 @@ module _ (s tb : List ℕ) (end : ℕ) (q keys : List ℕ) (d : ℕ) (live : Lis
         gains = record {
           has = λ p.
               sym (unless_none (answer_of (get_or answers p 0)))
-              ∙ ap (unless (answer_of (get_or answers p 0))) (sym (ap (λ (l : KeyValues). gives j l p) e ∙ ap (λ (o : Option ℕ). cond (elem p live) o none) (no_first j (rest_at q keys d p)) ∙ no (elem p live)))
+              ∙ ap (unless (answer_of (get_or answers p 0))) (sym (ap (λ (l : KeyValues). gives j l p) e ∙ ap (λ (o : Option ℕ). cond (elem p live) o None) (no_first j (rest_at q paths d p)) ∙ neither (elem p live)))
               ∙ t.gains p;
         };
       }
 
-  module _ (kvs : KeyValues) (cl : List Slice) (base : ℕ) (old answers : List ℕ) (j n : ℕ) (t : Through kvs cl base old answers j n) (m : more_at tb end j ≡ true) where
-    abbrev e : Entry s tb end j t.left cl
-    e = entry t.inside m
+-- a turn of the loop
+module _ {s tb : List ℕ} {end : ℕ} {q : List ℕ} {paths : List Keys} {d : ℕ} {live : List ℕ} {kvs : KeyValues} {cl : List Slice} {base : ℕ} {old answers : List ℕ} {j n : ℕ} (t : Through s tb end q paths d live kvs cl base old answers j n) (m : more_at tb end j ≡ true) where
+  abbrev qs : List Path
+  qs = rests q paths d live
 
-    pub key_there : SomeTree s tb end j
-    key_there = (e.key, e.here.at)
+  abbrev given : ℕ → KeyValues → ℕ → Option ℕ
+  given = gives s tb end q paths d live
 
-    pub value_there : (v : ℕ) → NextAt tb end j v → SomeTree s tb end v
-    value_there v nv = (e.val, (e.there v nv).at)
+  abbrev e : Entry s tb end j t.left cl
+  e = entry t.inside m
 
-    -- the value of the pair
-    abbrev pub the_value : TokenValue
-    the_value = value_of e.val
+  pub key_there : SomeTree s tb end j
+  key_there = (e.key, e.here.at)
 
-    module _ (k v w : ℕ) (ak : AfterPrefix tb j k) (nv : NextAt tb end j v) (aw : AfterPrefix tb v w) where
-      pub value_is : ValueAt s tb w the_value
-      value_is = tree_value s tb end v w e.val (e.there v nv).at aw
+  pub value_there : (v : ℕ) → NextAt tb end j v → SomeTree s tb end v
+  value_there v nv = (e.val, (e.there v nv).at)
 
-      pub value_before : w + value_size the_value ≤ end
-      value_before =
-          let a : w ≡ v + length (prefix_of e.val) = tree_head s tb end v w e.val (e.there v nv).at aw in
+  -- the value of the pair
+  abbrev pub the_value : TokenValue
+  the_value = value_of e.val
+
+  module _ {k v w : ℕ} (ak : AfterPrefix tb j k) (nv : NextAt tb end j v) (aw : AfterPrefix tb v w) where
+    pub value_is : ValueAt s tb w the_value
+    value_is = tree_value s tb end v w e.val (e.there v nv).at aw
+
+    pub value_before : w + value_size the_value ≤ end
+    value_before =
+        let a : w ≡ v + length (prefix_of e.val) = tree_head s tb end v w e.val (e.there v nv).at aw in
+        let b : v ≡ j + tree_size e.key = nv s e.key e.here.at in
+        let c : end ≡ j + pairs_size t.left + length cl = t.inside.all in
+        let f : pairs_size t.left ≡ tree_size e.key + (tree_size e.val + pairs_size e.rest) = ap pairs_size e.is ∙ pairs_two e.key e.val e.rest in
+        let z : length (prefix_of e.val) + value_size the_value ≤ tree_size e.val = tree_parts e.val in
+        omega arith
+
+    key_is : key_of e.key ≡ key_here s tb k
+    key_is = key_here_lem s tb end j k e.key e.here.at ak
+
+    steps_so : n + suc (suc (steps_at (onward (key_here s tb k) qs) the_value) + steps_in qs e.rest) ≡ steps_in qs kvs
+    steps_so =
+        ap (λ (x : ℕ). n + x) (sym (ap (steps_in qs) e.is ∙ steps_pair qs e.key e.val e.rest ∙ ap (λ (o : Option (List ℕ)). suc (suc (steps_at (onward o qs) the_value) + steps_in qs e.rest)) key_is))
+        ∙ t.steps
+
+    pub steps_fit : n + 2 + steps_at (onward (key_here s tb k) qs) the_value ≤ pairs_size kvs
+    steps_fit = omega (arith, steps_so, pairs_steps kvs qs)
+
+    module _ (j' : ℕ) (nj : NextAt tb end v j') where
+      pub goes_past : j < j'
+      goes_past =
           let b : v ≡ j + tree_size e.key = nv s e.key e.here.at in
-          let c : end ≡ j + pairs_size t.left + length cl = t.inside.all in
-          let f : pairs_size t.left ≡ tree_size e.key + (tree_size e.val + pairs_size e.rest) = ap pairs_size e.is ∙ pairs_two e.key e.val e.rest in
-          let z : length (prefix_of e.val) + value_size the_value ≤ tree_size e.val = tree_parts e.val in
+          let c : j' ≡ v + tree_size e.val = nj s e.val (e.there v nv).at in
+          let f : 1 ≤ tree_size e.key = tree_pos e.key in
           omega arith
 
-      key_is : key_of e.key ≡ key_here s tb k
-      key_is = key_here_lem s tb end j k e.key e.here.at ak
+      pub turn : (g : Going paths d live) (answers₁ next : List ℕ) (r : ℕ) → KeyMatched q paths d (key_here s tb k) live w answers answers₁ next r
+          → (answers₂ : List ℕ) (x : ℕ) → Inner q paths d (key_here s tb k) live g w the_value answers₁ answers₂ x
+          → (n' : ℕ) → n' ≡ n + 2 + x → Through s tb end q paths d live kvs cl base old answers₂ j' n'
+      turn g answers₁ next r b answers₂ x i n' ne =
+          let a : w ≡ v + length (prefix_of e.val) = tree_head s tb end v w e.val (e.there v nv).at aw in
+          let b₁ : v ≡ j + tree_size e.key = nv s e.key e.here.at in
+          let b₂ : j' ≡ v + tree_size e.val = nj s e.val (e.there v nv).at in
+          let c₁ : count e.key ≡ tree_size e.key = tree_size_lem e.key in
+          let c₂ : count e.val ≡ tree_size e.val = tree_size_lem e.val in
+          let so : n + suc (suc (steps_at (onward (key_here s tb k) qs) the_value) + steps_in qs e.rest) ≡ steps_in qs kvs = steps_so in
+          let xe : x ≡ steps_at (onward (key_here s tb k) qs) the_value = i.steps in
+          record {
+            left = e.rest;
+            inside = e.onward v j' nv nj;
+            steps = omega arith;
+            gains = λ p.
+                ap (λ (y : ℕ). unless (answer_of (get_or answers₂ p 0)) (given y e.rest p)) (omega arith)
+                ∙ ap (λ (o : Option ℕ). unless o (given (j + count e.key + count e.val) e.rest p)) (both.has p)
+                ∙ unless_assoc (answer_of (get_or answers p 0)) (gained p) (given (j + count e.key + count e.val) e.rest p)
+                ∙ ap (unless (answer_of (get_or answers p 0))) (pair_gives q paths d (key_here s tb k) live g j w e.key e.val e.rest key_is (omega arith) p)
+                ∙ ap (λ (l : KeyValues). unless (answer_of (get_or answers p 0)) (given j l p)) (sym e.is)
+                ∙ t.gains p;
+          }
+        where
+          gained : ℕ → Option ℕ
+          gained p = unless (among live (ends_at q paths d (key_here s tb k) w) p) (among (keep (goes_on q paths d (key_here s tb k)) live) (λ y. inside_first w the_value (rest_at q paths (d + 1) y)) p)
 
-      steps_so : n + suc (suc (steps_at (onward (key_here s tb k) ps) the_value) + steps_in ps e.rest) ≡ steps_in ps kvs
-      steps_so =
-          ap (λ (x : ℕ). n + x) (sym (ap (steps_in ps) e.is ∙ steps_pair ps e.key e.val e.rest ∙ ap (λ (o : Option (List ℕ)). suc (suc (steps_at (onward o ps) the_value) + steps_in ps e.rest)) key_is))
-          ∙ t.steps
-
-      pub steps_fit : n + 2 + steps_at (onward (key_here s tb k) ps) the_value ≤ pairs_size kvs
-      steps_fit = omega (arith, steps_so, pairs_steps kvs ps)
-
-      module _ (j' : ℕ) (nj : NextAt tb end v j') where
-        pub goes_past : j < j'
-        goes_past =
-            let b : v ≡ j + tree_size e.key = nv s e.key e.here.at in
-            let c : j' ≡ v + tree_size e.val = nj s e.val (e.there v nv).at in
-            let f : 1 ≤ tree_size e.key = tree_pos e.key in
-            omega arith
-
-        pub turn : (g : Going keys d live) (answers₁ next : List ℕ) (r : ℕ) → KeyMatched q keys d (key_here s tb k) live w answers answers₁ next r
-            → (answers₂ : List ℕ) (x : ℕ) → Inner q keys d (key_here s tb k) live g w the_value answers₁ answers₂ x
-            → (n' : ℕ) → n' ≡ n + 2 + x → Through kvs cl base old answers₂ j' n'
-        turn g answers₁ next r b answers₂ x i n' ne =
-            let a : w ≡ v + length (prefix_of e.val) = tree_head s tb end v w e.val (e.there v nv).at aw in
-            let b₁ : v ≡ j + tree_size e.key = nv s e.key e.here.at in
-            let b₂ : j' ≡ v + tree_size e.val = nj s e.val (e.there v nv).at in
-            let c₁ : count e.key ≡ tree_size e.key = tree_size_lem e.key in
-            let c₂ : count e.val ≡ tree_size e.val = tree_size_lem e.val in
-            let so : n + suc (suc (steps_at (onward (key_here s tb k) ps) the_value) + steps_in ps e.rest) ≡ steps_in ps kvs = steps_so in
-            let xe : x ≡ steps_at (onward (key_here s tb k) ps) the_value = i.steps in
-            record {
-              left = e.rest;
-              inside = e.onward v j' nv nj;
-              steps = omega arith;
-              gains = λ p.
-                  ap (λ (y : ℕ). unless (answer_of (get_or answers₂ p 0)) (gives y e.rest p)) (omega arith)
-                  ∙ ap (λ (o : Option ℕ). unless o (gives (j + count e.key + count e.val) e.rest p)) (both.has p)
-                  ∙ unless_assoc (answer_of (get_or answers p 0)) (gained p) (gives (j + count e.key + count e.val) e.rest p)
-                  ∙ ap (unless (answer_of (get_or answers p 0))) (pair_gives q keys d (key_here s tb k) live g j w e.key e.val e.rest key_is (omega arith) p)
-                  ∙ ap (λ (l : KeyValues). unless (answer_of (get_or answers p 0)) (gives j l p)) (sym e.is)
-                  ∙ t.gains p;
-            }
-          where
-            gained : ℕ → Option ℕ
-            gained p = unless (among live (ends_at q keys d (key_here s tb k) w) p) (among (keep (goes_on q keys d (key_here s tb k)) live) (λ y. inside_first w the_value (rest_at q keys (d + 1) y)) p)
-
-            both : Gains gained answers answers₂
-            both = gains_then b.gains i.gains (λ p. refl)
+          both : Gains gained answers answers₂
+          both = gains_then b.gains i.gains (λ p. refl)
 
 -- how many paths go on
-pub matched_length : (q keys : List ℕ) (d : ℕ) (key : Option (List ℕ)) (live : List ℕ) (w : ℕ) (old answers next : List ℕ) (r : ℕ) → length live ≤ 128 → KeyMatched q keys d key live w old answers next r
-    → length (keep (goes_on q keys d key) live) ≡ r
-matched_length q keys d key live w old answers next r h b =
+pub matched_length : (q : List ℕ) (paths : List Keys) (d : ℕ) (key : Option (List ℕ)) (live : List ℕ) (w : ℕ) (old answers next : List ℕ) (r : ℕ) → length live ≤ 128 → KeyMatched q paths d key live w old answers next r
+    → length (keep (goes_on q paths d key) live) ≡ r
+matched_length q paths d key live w old answers next r h b =
     let f : r ≤ length live = b.few in
     let z : length next ≡ 128 = b.room in
     sym (ap length b.list) ∙ length-take-le r next (omega arith)

@@ -1,7 +1,5 @@
--- The paths as the walk has them, in words: how many keys each path has, then for each path where its keys' texts start and end in the path
--- text.
-use Rattle.std.specs.Prelude.{ℕ, zero, suc, ◌+◌, ◌-◌, ◌*◌, ◌≤◌, ◌<◌, ◌≡◌, Bool, true, ◌||◌, cond, List, [], ◌∷◌, ◌++◌, length, get_or, leb, eqb}
-use Rattle.std.proofs.Math.Option.{Option, none, some}
+-- The paths as the walk has them: where each key's text stands in the path text.
+use Rattle.std.specs.Prelude.{ℕ, zero, suc, ◌+◌, ◌-◌, ◌≤◌, ◌<◌, ◌≡◌, Bool, true, ◌||◌, cond, List, [], ◌∷◌, ◌++◌, length, get_or, take, eqb, Option, None, Some}
 use Rattle.eon_spec.specs.Base.{elem}
 use Rattle.eon_spec.specs.Tree.{TokenTree, TokenValue}
 use Rattle.eon_spec.specs.Calls.{record_text}
@@ -9,14 +7,8 @@ use Rattle.eon_spec.specs.RecordKind.{IDENTIFIER, STRING}
 use Rattle.eon_spec.specs.Lookup.{keys_max, paths_max, Key, Path, path_in, path_list}
 use Rattle.eon_table.specs.Words.{word, record_of, part}
 use Rattle.eon_table.specs.TreeAt.{TreeAt, ValueAt}
-
--- a word for each path, and two for each of its keys
-abbrev pub key_words : ℕ
-key_words = 2176
-
--- where the words of key d of path p stand
-abbrev pub place_of : ℕ → ℕ → ℕ
-place_of p d = paths_max + 2 * (keys_max * p + d)
+use Rattle.eon_lookup.specs.declared.paths.Place.{Place}
+use Rattle.eon_lookup.specs.declared.paths.Keys.{Keys}
 
 -- the kinds of keys: identifiers and strings
 abbrev pub key_kind : ℕ → Bool
@@ -24,55 +16,90 @@ key_kind k = eqb k IDENTIFIER || eqb k STRING
 
 -- the key that record i is, if it is one
 abbrev pub key_here : List ℕ → List ℕ → ℕ → Option Key
-key_here s tb i = cond (key_kind (word tb i 0)) (some (record_text s (record_of tb i))) none
+key_here s tb i = cond (key_kind (word tb i 0)) (Some (record_text s (record_of tb i))) None
 
 -- the numbers below n
 abbrev pub below : ℕ → List ℕ
 below zero = []
 below (suc n) = below n ++ (n ∷ [])
 
-module _ (q keys : List ℕ) where
-  -- the key whose text's ends stand at a place
-  abbrev pub key_at : ℕ → Key
-  key_at b = part q (get_or keys b 0) (get_or keys (b + 1) 0)
+abbrev pub no_place : Place
+no_place = record { start = 0; end = 0 }
 
-  -- the n keys from a place on
-  unfoldable pub keys_from : ℕ → ℕ → Path
-  keys_from b zero = []
-  keys_from b (suc n) = key_at b ∷ keys_from (b + 2) n
+abbrev pub no_keys : Keys
+no_keys = record { places = []; len = 0 }
 
-  -- what is left of path p behind d keys
-  abbrev pub rest_at : ℕ → ℕ → Path
-  rest_at d p = keys_from (place_of p d) (get_or keys p 0 - d)
+-- how many keys path p has
+abbrev pub many : List Keys → ℕ → ℕ
+many paths p = (get_or paths p no_keys).len
 
-  abbrev pub rests : ℕ → List ℕ → List Path
-  rests d [] = []
-  rests d (p ∷ ps) = rest_at d p ∷ rests d ps
+module _ (q : List ℕ) where
+  -- the key that stands at place d
+  abbrev pub key_text : List Place → ℕ → Key
+  key_text l d = part q (get_or l d no_place).start (get_or l d no_place).end
+
+  -- n keys, from place d on
+  unfoldable pub keys_from : List Place → ℕ → ℕ → Path
+  keys_from l d zero = []
+  keys_from l d (suc n) = key_text l d ∷ keys_from l (d + 1) n
+
+  -- all keys of a path
+  abbrev pub whole : Keys → Path
+  whole k = keys_from k.places 0 k.len
+
+  abbrev pub wholes : List Keys → List Path
+  wholes [] = []
+  wholes (k ∷ ks) = whole k ∷ wholes ks
+
+  module _ (paths : List Keys) where
+    -- key d of path p
+    abbrev pub key_at : ℕ → ℕ → Key
+    key_at p d = key_text (get_or paths p no_keys).places d
+
+    -- what is left of path p behind d keys
+    abbrev pub rest_at : ℕ → ℕ → Path
+    rest_at d p = keys_from (get_or paths p no_keys).places d (many paths p - d)
+
+    abbrev pub rests : ℕ → List ℕ → List Path
+    rests d [] = []
+    rests d (p ∷ ps) = rest_at d p ∷ rests d ps
 
 -- path p has a key behind d of them
-pub record GoesOn (keys : List ℕ) (d p : ℕ) : Type 0 where
+pub record GoesOn (paths : List Keys) (d p : ℕ) : Type 0 where
   pub small : p < paths_max
-  pub more : d < get_or keys p 0
-  pub few : get_or keys p 0 ≤ keys_max
+  pub there : p < length paths
+  pub more : d < many paths p
+  pub few : many paths p ≤ keys_max
 
-abbrev pub Going : List ℕ → ℕ → List ℕ → Type 0
-Going keys d ps = (p : ℕ) → elem p ps ≡ true → GoesOn keys d p
+abbrev pub Going : List Keys → ℕ → List ℕ → Type 0
+Going paths d ps = (p : ℕ) → elem p ps ≡ true → GoesOn paths d p
 
 -- ---- the form of a path list
 
--- r keys were found; none if there is no path
-abbrev pub made : ℕ → Path → Option Path
-made zero ks = none
-made (suc n) ks = some ks
+-- the path that was read
+abbrev pub path_by : List ℕ → Option Keys → Option Path
+path_by q None = None
+path_by q (Some k) = Some (whole q k)
 
--- the path that a value is, its keys stored from `base` on; words before it stay
-pub record OnePath (tq : List ℕ) (i base : ℕ) (keys keys' : List ℕ) (r : ℕ) : Type 0 where
-  pub few : r ≤ keys_max
-  pub size : length keys' ≡ key_words
-  pub is : (q : List ℕ) (v : TokenValue) → ValueAt q tq i v → path_in v ≡ made r (keys_from q keys' base r)
-  pub kept : (x : ℕ) → x < base → get_or keys' x 0 ≡ get_or keys x 0
+abbrev pub Sized : Option Keys → Type 0
+Sized None = Unit {0}
+Sized (Some k) = (0 < k.len) × (k.len ≤ keys_max)
 
--- r paths were found; more than paths_max if there is no path list
-pub record AllPaths (tq keys : List ℕ) (r : ℕ) : Type 0 where
-  pub is : (q : List ℕ) (end : ℕ) (u : TokenTree) → TreeAt q tq end 0 u → path_list u ≡ cond (leb r paths_max) (some (rests q keys 0 (below r))) none
-  pub going : r ≤ paths_max → Going keys 0 (below r)
+-- the path that a value is
+pub record IsPath (q tq : List ℕ) (i : ℕ) (r : Option Keys) : Type 0 where
+  pub is : (v : TokenValue) → ValueAt q tq i v → path_in v ≡ path_by q r
+  pub sized : Sized r
+
+-- the paths that were read: so many, in a room
+abbrev pub paths_by : List ℕ → List Keys → Option ℕ → Option (List Path)
+paths_by q room None = None
+paths_by q room (Some n) = Some (wholes q (take n room))
+
+abbrev pub AllGo : List Keys → Option ℕ → Type 0
+AllGo room None = Unit {0}
+AllGo room (Some n) = (n ≤ paths_max) × (length room ≡ paths_max) × Going (take n room) 0 (below n)
+
+-- the path list that a tree is
+pub record IsPaths (q tq : List ℕ) (room : List Keys) (r : Option ℕ) : Type 0 where
+  pub is : (end : ℕ) (u : TokenTree) → TreeAt q tq end 0 u → path_list u ≡ paths_by q room r
+  pub go : AllGo room r

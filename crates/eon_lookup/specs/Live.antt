@@ -1,24 +1,24 @@
 -- The walk's answers: of each path the first value that it reaches.
-use Rattle.std.specs.Prelude.{ℕ, ◌+◌, ◌≤◌, ◌≡◌, Bool, ◌&&◌, not, cond, List, [], ◌∷◌, length, get_or, take, set, ltb, eqb}
-use Rattle.std.proofs.Math.Option.{Option, none, some}
+use Rattle.std.specs.Prelude.{ℕ, ◌+◌, ◌≤◌, ◌≡◌, Bool, ◌&&◌, not, cond, List, [], ◌∷◌, length, get_or, take, set, ltb, eqb, Option, None, Some}
 use Rattle.eon_spec.specs.Base.{elem}
 use Rattle.eon_spec.specs.Tree.{TokenTree, KeyValues}
 use Rattle.eon_spec.specs.Lookup.{paths_max, none_word, Key, Path, is_key, reached_in, steps_in, steps, reached}
-use Rattle.eon_lookup.specs.Keys.{place_of, key_at, rest_at, rests}
+use Rattle.eon_lookup.specs.declared.paths.Keys.{Keys}
+use Rattle.eon_lookup.specs.Keys.{many, key_at, rest_at, rests}
 
 -- the first of the values reached, in table order
 abbrev pub first_some : List ℕ → Option ℕ
-first_some [] = none
-first_some (n ∷ ns) = some n
+first_some [] = None
+first_some (n ∷ ns) = Some n
 
 -- the answer that a word is
 abbrev pub answer_of : ℕ → Option ℕ
-answer_of w = cond (eqb w none_word) none (some w)
+answer_of w = cond (eqb w none_word) None (Some w)
 
 -- an answer that a path has is kept
 abbrev pub unless : Option ℕ → Option ℕ → Option ℕ
-unless none b = b
-unless (some a) b = some a
+unless None b = b
+unless (Some a) b = Some a
 
 -- path p is answered by record w, unless it has an answer
 abbrev pub answered : List ℕ → ℕ → ℕ → List ℕ
@@ -30,7 +30,7 @@ pub record Gains (new : ℕ → Option ℕ) (old answers : List ℕ) : Type 0 wh
 
 -- only the paths of a list
 abbrev pub among : List ℕ → (ℕ → Option ℕ) → ℕ → Option ℕ
-among ps f p = cond (elem p ps) (f p) none
+among ps f p = cond (elem p ps) (f p) None
 
 -- the numbers of a list that pass
 abbrev pub keep : (ℕ → Bool) → List ℕ → List ℕ
@@ -39,20 +39,20 @@ keep f (p ∷ ps) = cond (f p) (p ∷ keep f ps) (keep f ps)
 
 -- the first value that a path, which has a key, reaches in a map's pairs
 abbrev pub first_in : ℕ → KeyValues → Path → Option ℕ
-first_in n kvs [] = none
+first_in n kvs [] = None
 first_in n kvs (k ∷ ks) = first_some (reached_in n kvs k ks)
 
-module _ (q keys : List ℕ) (d : ℕ) (key : Option Key) where
+module _ (q : List ℕ) (paths : List Keys) (d : ℕ) (key : Option Key) where
   -- path p has this key behind d others
   abbrev pub matches : ℕ → Bool
-  matches p = is_key (key_at q keys (place_of p d)) key
+  matches p = is_key (key_at q paths p d) key
 
   -- and ends with it, or goes on
   abbrev pub ends_at : ℕ → ℕ → Option ℕ
-  ends_at w p = cond (matches p && not (ltb (d + 1) (get_or keys p 0))) (some w) none
+  ends_at w p = cond (matches p && not (ltb (d + 1) (many paths p))) (Some w) None
 
   abbrev pub goes_on : ℕ → Bool
-  goes_on p = matches p && ltb (d + 1) (get_or keys p 0)
+  goes_on p = matches p && ltb (d + 1) (many paths p)
 
   -- behind a key: the paths that end have record w for their answer, the others are listed in their order
   pub record KeyMatched (live : List ℕ) (w : ℕ) (old answers next : List ℕ) (r : ℕ) : Type 0 where
@@ -63,13 +63,13 @@ module _ (q keys : List ℕ) (d : ℕ) (key : Option Key) where
     pub gains : Gains (among live (ends_at w)) old answers
 
 -- what a walk through a map's pairs, the first at record n, gives the paths of a list behind d keys
-pub record Walked (q keys : List ℕ) (d : ℕ) (live : List ℕ) (n : ℕ) (kvs : KeyValues) (old answers : List ℕ) (r : ℕ) : Type 0 where
-  pub steps : r ≡ steps_in (rests q keys d live) kvs
+pub record Walked (q : List ℕ) (paths : List Keys) (d : ℕ) (live : List ℕ) (n : ℕ) (kvs : KeyValues) (old answers : List ℕ) (r : ℕ) : Type 0 where
+  pub steps : r ≡ steps_in (rests q paths d live) kvs
   pub size : length answers ≡ paths_max
-  pub gains : Gains (among live (λ p. first_in n kvs (rest_at q keys d p))) old answers
+  pub gains : Gains (among live (λ p. first_in n kvs (rest_at q paths d p))) old answers
 
 -- what the walk of a whole tree gives the first r paths
-pub record Looks (q keys : List ℕ) (live : List ℕ) (t : TokenTree) (old answers : List ℕ) (r : ℕ) : Type 0 where
-  pub steps : r ≡ steps (rests q keys 0 live) t
+pub record Looks (q : List ℕ) (paths : List Keys) (live : List ℕ) (t : TokenTree) (old answers : List ℕ) (r : ℕ) : Type 0 where
+  pub steps : r ≡ steps (rests q paths 0 live) t
   pub size : length answers ≡ paths_max
-  pub gains : Gains (among live (λ p. first_some (reached 0 t (rest_at q keys 0 p)))) old answers
+  pub gains : Gains (among live (λ p. first_some (reached 0 t (rest_at q paths 0 p)))) old answers

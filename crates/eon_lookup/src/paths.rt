@@ -1,84 +1,107 @@
-// The form of a path list, a list of at most PATHS_MAX paths, each a list of 1 to KEYS_MAX keys; and its paths in words.
-ghost use Rattle.std.specs.Prelude.{◌≡◌, List, ℕ, ◌+◌, ◌*◌, ◌≤◌, length};
-ghost use Rattle.eon_table.specs.Words.{word};
+// The form of a path list, a list of at most PATHS_MAX paths, each a list of 1 to KEYS_MAX keys.
+ghost use Rattle.std.specs.Prelude.{◌≡◌, ◌<◌, ℕ, length};
+ghost use Rattle.eon_table.specs.Words.{word, part};
 ghost use Rattle.eon_table.specs.TreeAt.{SomeTree, SomeValue};
 ghost use Rattle.eon_spec.specs.Lookup.{keys_max};
-ghost use Rattle.eon_lookup.specs.Keys.{key_words, key_kind, OnePath, AllPaths};
+ghost use Rattle.eon_lookup.specs.Keys.{key_kind, key_text, IsPath, IsPaths};
 
-use eon_spec::record_kind::{IDENTIFIER, LIST, STRING};
-use eon_spec::{KEYS_MAX, PATHS_MAX};
-use eon_table::record::{after_prefix, kind, more, next_tree, size, start, text_end};
+use eon_spec::{KEYS_MAX, PATHS_MAX, RecordKind};
+use eon_table::{Sheet, part};
 
-// A word for each path, and two for each of its keys.
-pub const KEY_WORDS: usize = 2176;
+// Where the text of a key stands in the path text.
+#[derive(Clone, Copy)]
+pub struct Place {
+    pub start: usize,
+    pub end: usize,
+}
 
-// What `all_paths` answers for a table that is no list of paths: more than a list has.
-pub const NO_LIST: usize = 129;
+// The keys of a path: the first `len` places, since there is no heap.
+#[derive(Clone, Copy)]
+pub struct Keys {
+    pub places: [Place; KEYS_MAX],
+    pub len: usize,
+}
+
+impl Keys {
+    pub fn new() -> Self
+        ensures places { length result.places ≡ keys_max }
+        ensures none { result.len ≡ 0 }
+    {
+        Keys {
+            places: [Place { start: 0, end: 0 }; KEYS_MAX],
+            len: 0,
+        }
+    }
+
+    // The bytes of key d.
+    pub fn text<'a>(&self, paths: &'a [u8], d: usize) -> &'a [u8]
+        requires { d < keys_max }
+        ensures { result.now ≡ key_text paths.now self.now.places d }
+    {
+        let place = self.places[d];
+        part(paths, place.start, place.end)
+    }
+}
 
 // Is record i a key: an identifier or a string?
-pub fn is_key(table: &[u32], i: usize) -> bool
-    ensures { result ≡ key_kind (word table.now i 0) }
+pub fn is_key(sheet: Sheet, i: usize) -> bool
+    ensures { result ≡ key_kind (word sheet.entry.table.now i 0) }
 {
-    let kind = kind(table, i);
-    if kind == IDENTIFIER {
-        return true;
-    }
-    kind == STRING
+    sheet.is(i, RecordKind::Identifier) || sheet.is(i, RecordKind::String)
 }
 
-// How many keys the path of record i has, 0 if it is none; where the text of each starts and ends is stored from `base` on.
-fn one_path(table: &[u32], i: usize, keys: &mut [usize; KEY_WORDS], base: usize) -> usize
-    requires { (base + 2 * keys_max ≤ key_words) × (length keys.old ≡ key_words) × ((s : List ℕ) × SomeValue s table.now i) }
-    ensures { OnePath table.now i base keys.old keys.new result }
+// How many paths the sheet's tree lists, stored in their order, if it is a list of paths. As in `read_path`, how far a turn goes is said by the
+// table, so neither loop is a `for`.
+pub fn read_paths(list: Sheet, room: &mut [Keys; PATHS_MAX]) -> Option<usize>
+    requires { (end : ℕ) × SomeTree list.text.now list.table.now end 0 }
+    ensures { IsPaths list.entry.text.now list.entry.table.now room.new result }
 {
-    if kind(table, i) != LIST {
-        return 0;
+    let i = list.after_prefix(0);
+    if !list.is(i, RecordKind::List) {
+        return None;
     }
-    let end = i + size(table, i);
+    let end = list.behind(i);
     let mut j = i + 1;
     let mut n: usize = 0;
-    while more(table, j, end) {
-        if n == KEYS_MAX {
-            return 0;
-        }
-        let k = after_prefix(table, j);
-        if !is_key(table, k) {
-            return 0;
-        }
-        let at = base + 2 * n;
-        keys[at] = start(table, k);
-        keys[at + 1] = text_end(table, k);
-        n += 1;
-        j = next_tree(table, j, end);
-    }
-    n
-}
-
-// How many paths the table's tree lists, NO_LIST if it is no list of paths. Word p is how many keys path p has; behind these words stand
-// the keys' own, for 2 * KEYS_MAX words a path.
-pub fn all_paths(table: &[u32], keys: &mut [usize; KEY_WORDS]) -> usize
-    requires { (length keys.old ≡ key_words) × ((s : List ℕ) × (end : ℕ) × SomeTree s table.now end 0) }
-    ensures { AllPaths table.now keys.new result }
-{
-    let i = after_prefix(table, 0);
-    if kind(table, i) != LIST {
-        return NO_LIST;
-    }
-    let end = i + size(table, i);
-    let mut j = i + 1;
-    let mut n: usize = 0;
-    while more(table, j, end) {
+    while list.more(j, end) {
         if n == PATHS_MAX {
-            return NO_LIST;
+            return None;
         }
-        let k = after_prefix(table, j);
-        let len = one_path(table, k, keys, PATHS_MAX + 2 * (KEYS_MAX * n));
-        if len == 0 {
-            return NO_LIST;
-        }
-        keys[n] = len;
+        room[n] = read_path(list, list.after_prefix(j))?;
         n += 1;
-        j = next_tree(table, j, end);
+        j = list.next_tree(j, end);
     }
-    n
+    Some(n)
+}
+
+// The path that record i is, if it is one.
+fn read_path(list: Sheet, i: usize) -> Option<Keys>
+    requires { SomeValue list.text.now list.table.now i }
+    ensures { IsPath list.entry.text.now list.entry.table.now i result }
+{
+    if !list.is(i, RecordKind::List) {
+        return None;
+    }
+    let end = list.behind(i);
+    let mut path = Keys::new();
+    let mut j = i + 1;
+    while list.more(j, end) {
+        let k = list.after_prefix(j);
+        if path.len == KEYS_MAX {
+            return None;
+        }
+        if !is_key(list, k) {
+            return None;
+        }
+        path.places[path.len] = Place {
+            start: list.start(k),
+            end: list.text_end(k),
+        };
+        path.len += 1;
+        j = list.next_tree(j, end);
+    }
+    if path.len == 0 {
+        return None;
+    }
+    Some(path)
 }

@@ -1,7 +1,7 @@
+use Rattle.std.specs.Prelude.{None, Some}
 -- What is written on one line.
 use mathlib.Core.Path.{◌≡◌, refl, sym, ap, ◌∙◌, subst}
 use mathlib.Core.Bool.{Bool, true, false, ◌&&◌, cond}
-use mathlib.Core.Option.{none, some}
 use mathlib.Core.List.{List, [], ◌∷◌, ◌++◌, append_assoc, append-nil}
 use Prim.Native.Nat.{ℕ, ◌+◌, ◌-◌, ◌≤◌, ◌<◌}
 use native.Mathlib.Omega.{arith}
@@ -80,8 +80,8 @@ module _ (s tb : List ℕ) (o : Settings) (n : ℕ) where
   bare_plain : (end i : ℕ) (t : TokenTree) → TreeAt s tb end i t → is_simple t ≡ true → plain_at s tb i ≡ bare_value o n t
   unfolding bare_value
   bare_plain end i (tree sp (c ∷ cs) v x) h e = clash e refl
-  bare_plain end i (tree sp [] v (some c)) h e = clash e refl
-  bare_plain end i (tree sp [] v none) h e = plain_law i v (bare_value_lem s tb end i sp v none h) (value_one v e)
+  bare_plain end i (tree sp [] v (Some c)) h e = clash e refl
+  bare_plain end i (tree sp [] v None) h e = plain_law i v (bare_value_lem s tb end i sp v None h) (value_one v e)
 
   module _ (end : ℕ) where
     pub row_law : (vs : TokenTrees) (i : ℕ) → InsideAt s tb end i vs [] → all_trees is_simple vs ≡ true → plain_line s tb i (end - i) ≡ one_line o n vs
@@ -140,26 +140,6 @@ module _ (s tb : List ℕ) (i : ℕ) where
 
   no_map : {A : Type 0} (kvs : KeyValues) (cl : List Slice) → ValueAt s tb i (map_of kvs cl) → Long → flat_at s tb i ≡ true → A
   no_map kvs cl h l f = clash (flat_map s tb i l (value_kind s tb i (map_of kvs cl) h) ∙ f) refl
-
-  inside_plains : (vs : TokenTrees) (cl : List Slice) → InsideAt s tb (i + word tb i 4) (i + 1) vs cl → on_one_line vs cl ≡ true → (j : ℕ) → i + 1 ≤ j → j < i + word tb i 4 → Plain s tb j
-  inside_plains vs cl h e =
-      row_plains s tb (i + word tb i 4) vs (i + 1) (subst (λ (x : List Slice). InsideAt s tb (i + word tb i 4) (i + 1) vs x) (one_closing vs cl e) h) (one_simple vs cl e)
-
-  pub flat_plains : (v : TokenValue) → ValueAt s tb i v → Long → flat_at s tb i ≡ true → (j : ℕ) → i + 1 ≤ j → j < i + word tb i 4 → Plain s tb j
-  unfolding value_size
-  flat_plains (identifier b) h l f = no_leaf (identifier b) h refl l
-  flat_plains (number b) h l f = no_leaf (number b) h refl l
-  flat_plains (quoted_string b) h l f = no_leaf (quoted_string b) h refl l
-  flat_plains (list_of vs cl) h l f =
-      let g = list_inside_lem s tb i vs cl h in
-      inside_plains vs cl g (flat_one_line vs cl 4 g (value_kind s tb i (list_of vs cl) h) (λ z. omega arith) l f)
-  flat_plains (map_of kvs cl) h l f = no_map kvs cl h l f
-  flat_plains (variant_of m vs cl) h l f =
-      let g = variant_inside s tb i m vs cl h in
-      inside_plains vs cl g (flat_one_line vs cl 6 g (value_kind s tb i (variant_of m vs cl) h) (λ z. omega arith) l f)
-
-  pub flat_not_map : (v : TokenValue) → ValueAt s tb i v → Long → flat_at s tb i ≡ true → word tb i 0 ≡ 5 → ⊥
-  flat_not_map v h l f e = clash (flat_map s tb i l e ∙ f) refl
 
   module _ (o : Settings) (n : ℕ) where
     row_inside : (vs : TokenTrees) (cl : List Slice) → InsideAt s tb (i + word tb i 4) (i + 1) vs cl → on_one_line vs cl ≡ true →

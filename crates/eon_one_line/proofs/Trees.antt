@@ -1,7 +1,7 @@
+use Rattle.std.specs.Prelude.{None, Some}
 -- From the table's words to the trees that it holds.
 use mathlib.Core.Path.{◌≡◌, refl, sym, ap, ◌∙◌, subst}
 use mathlib.Core.Bool.{Bool, true, false, ◌&&◌, ◌||◌, not, cond}
-use mathlib.Core.Option.{none, some}
 use mathlib.Core.List.{List, [], ◌∷◌}
 use Prim.Native.Nat.{ℕ, suc, ◌+◌, ◌-◌, ◌≤◌, ◌<◌}
 use native.Mathlib.Omega.{arith}
@@ -81,8 +81,8 @@ module _ (s tb : List ℕ) where
 
     pub simple_law : (t : TokenTree) → TreeAt s tb end i t → is_simple t ≡ simple_at s tb end i
     simple_law (tree sp (c ∷ cs) v x) h = simple_prefix s tb end i (unfold TreeAt in h.0.0.is_kind)
-    simple_law (tree sp [] v none) h = value_simple v (bare_value_lem s tb end i sp v none h) (bare_suffix s tb end i sp v none h)
-    simple_law (tree sp [] v (some c)) h = with_suffix_lem v (bare_value_lem s tb end i sp v (some c) h) (bare_suffix s tb end i sp v (some c) h).0
+    simple_law (tree sp [] v None) h = value_simple v (bare_value_lem s tb end i sp v None h) (bare_suffix s tb end i sp v None h)
+    simple_law (tree sp [] v (Some c)) h = with_suffix_lem v (bare_value_lem s tb end i sp v (Some c) h) (bare_suffix s tb end i sp v (Some c) h).0
 
 -- ---- should_format_values_on_one_line
 
@@ -128,8 +128,8 @@ value_one (variant_of n vs cl) e = empty_size vs cl e
 pub simple_size : (t : TokenTree) → is_simple t ≡ true → tree_size t ≡ 1
 unfolding tree_size
 simple_size (tree sp (c ∷ cs) v x) e = clash e refl
-simple_size (tree sp [] v (some c)) e = clash e refl
-simple_size (tree sp [] v none) e = let q : value_size v ≡ 1 = value_one v e in rw q
+simple_size (tree sp [] v (Some c)) e = clash e refl
+simple_size (tree sp [] v None) e = let q : value_size v ≡ 1 = value_one v e in rw q
 
 pub count_most : (vs : TokenTrees) → count_trees vs ≤ trees_size vs
 unfolding trees_size

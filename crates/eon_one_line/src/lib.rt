@@ -1,211 +1,135 @@
 // Values on one line: which are (format.rs, should_format_values_on_one_line), and how they are written.
 #![tactic(auto)]
 
-ghost use Rattle.std.specs.Prelude.{◌≡◌, [], ◌∷◌, ◌++◌, ℕ, ◌+◌, ◌-◌, ◌<◌, ◌≤◌, eqb, length, true, false, cond};
+ghost use Rattle.std.specs.Prelude.{◌≡◌, [], ◌∷◌, ◌++◌, ℕ, ◌+◌, ◌-◌, ◌^◌, ◌<◌, ◌≤◌, length, true};
 ghost use Rattle.eon_spec.specs.Tree.{TokenValue};
-ghost use Rattle.eon_spec.specs.RecordKind.{NUMBER};
 ghost use Rattle.eon_spec.specs.Layout.{Settings, value};
 ghost use Rattle.eon_spec.specs.Base.{elem};
-ghost use Rattle.eon_one_line.specs.Flat.{comma_at, simple_at, width_at, one_line_at, flat_at, plain_at, plain_line, Plain};
-ghost use Rattle.eon_put.specs.Put.{Wrote};
-ghost use Rattle.eon_table.specs.Words.{word, text_at};
+ghost use Rattle.eon_one_line.specs.Flat.{simple_at, width_at, one_line_at, flat_at, plain_at, plain_line};
+ghost use Rattle.eon_table.specs.Words.{word};
 ghost use Rattle.eon_table.specs.TreeAt.{ValueAt, SomeValue};
 
-use eon_put::{put, put_text};
-use eon_spec::record_kind::{CLOSING_COMMENT, LIST, MAP, NUMBER, PREFIX_COMMENT, STRING};
-use eon_table::record::{has_suffix, word};
+use eon_put::Sink;
+use eon_spec::RecordKind;
+use eon_table::Sheet;
 
-fn has_line_feed(text: &[u8], table: &[u32], i: usize) -> bool
-    ensures { result ≡ elem 10 (text_at text.now table.now i) }
+// ---- the rule
+
+// The most values on one line, and the width that they stay below.
+const VALUES_MAX: usize = 4;
+
+const WIDTH: usize = 60;
+
+fn has_line_feed(text: &[u8]) -> bool
+    ensures { result ≡ elem 10 text.now }
 {
-    let to = word(table, i, 2);
-    let mut j = word(table, i, 1);
-    while j < to {
-        if j < text.len() {
-            if text[j] == 10 {
-                return true;
-            }
-        }
-        j += 1;
-    }
-    false
+    text.contains(&b'\n')
 }
 
-fn is_simple(text: &[u8], table: &[u32], i: usize, end: usize) -> bool
+#[tactic(auto, unfolding(crate::specs::Flat::simple_at))]
+fn is_simple(sheet: Sheet, i: usize, end: usize) -> bool
     requires { i < end }
-    ensures { result ≡ simple_at text.now table.now end i }
+    ensures { result ≡ simple_at sheet.entry.text.now sheet.entry.table.now end i }
 {
-    let kind = word(table, i, 0);
-    if kind == PREFIX_COMMENT {
-        return false;
-    }
-    if word(table, i, 4) != 1 {
-        return false;
-    }
-    if has_suffix(table, i + 1, end) {
-        return false;
-    }
-    if kind == STRING {
-        return !has_line_feed(text, table, i);
-    }
-    true
+    !sheet.is(i, RecordKind::PrefixComment)
+        && sheet.size(i) == 1
+        && !sheet.has_suffix(i + 1, end)
+        && !(sheet.is(i, RecordKind::String) && has_line_feed(sheet.text_at(i)))
 }
 
 // The estimated width of a value, with the two bytes behind it.
-fn width(table: &[u32], i: usize) -> usize
-    ensures { (result ≡ width_at [] table.now i) × (result < 4294967299) }
+fn width(sheet: Sheet, i: usize) -> usize
+    ensures value { result ≡ width_at [] sheet.entry.table.now i }
+    ensures sized { result < 2 ^ 32 + 2 }
 {
-    if word(table, i, 0) == STRING {
-        let from = word(table, i, 1);
-        let to = word(table, i, 2);
-        if from <= to {
-            return to - from + 2;
-        }
-        return 2;
+    if sheet.is(i, RecordKind::String) {
+        sheet.text_end(i).saturating_sub(sheet.start(i)) + 2
+    } else {
+        7
     }
-    7
-}
-
-fn still_numbers(numbers: bool, kind: usize) -> bool
-    ensures { result ≡ cond (eqb kind NUMBER) numbers false }
-{
-    if kind == NUMBER { numbers } else { false }
 }
 
 // should_format_values_on_one_line, with no closing comments: the records from i up to `end`.
-pub fn on_one_line(text: &[u8], table: &[u32], i: usize, end: usize) -> bool
+#[tactic(auto, unfolding(crate::specs::Flat::one_line_at, crate::specs::Flat::line_at))]
+pub fn on_one_line(sheet: Sheet, i: usize, end: usize) -> bool
     requires { i ≤ end }
-    ensures { result ≡ one_line_at text.now table.now end i }
+    ensures { result ≡ one_line_at sheet.entry.text.now sheet.entry.table.now end i }
 {
-    if 4 < end - i {
+    if VALUES_MAX < end - i {
         return false;
     }
-    let mut j = i;
     let mut numbers = true;
     let mut wide = 0;
-    while j < end {
-        let kind = word(table, j, 0);
-        if kind == CLOSING_COMMENT {
+    for j in i..end {
+        if sheet.is(j, RecordKind::ClosingComment) || !is_simple(sheet, j, end) {
             return false;
         }
-        if !is_simple(text, table, j, end) {
-            return false;
-        }
-        numbers = still_numbers(numbers, kind);
-        wide += width(table, j);
-        j += 1;
+        numbers &= sheet.is(j, RecordKind::Number);
+        wide += width(sheet, j);
     }
-    if numbers {
-        return true;
-    }
-    wide < 60
+    numbers || wide < WIDTH
 }
 
 // Whether a list, map or variant with something in it needs no lines.
-pub fn is_flat(text: &[u8], table: &[u32], i: usize) -> bool
-    requires { (i < length table.now) × (0 < word table.now i 4) × (word table.now i 4 ≡ 1 → ⊥) }
-    ensures { result ≡ flat_at text.now table.now i }
+#[tactic(auto, unfolding(crate::specs::Flat::flat_at))]
+pub fn is_flat(sheet: Sheet, i: usize) -> bool
+    requires inside { i < length sheet.table.now }
+    requires something { 1 < word sheet.table.now i 4 }
+    ensures { result ≡ flat_at sheet.entry.text.now sheet.entry.table.now i }
 {
-    if word(table, i, 0) == MAP {
-        return false;
-    }
-    let size = word(table, i, 4);
-    on_one_line(text, table, i + 1, i + size)
+    !sheet.is(i, RecordKind::Map) && on_one_line(sheet, i + 1, sheet.behind(i))
 }
+
+// ---- the line
 
 // A simple value.
-pub fn put_plain(
-    text: &[u8],
-    table: &[u32],
-    i: usize,
-    out: &mut [u8],
-    live: bool,
-    at: usize,
-) -> usize
-    requires { Plain text.now table.now i }
-    ensures { Wrote live out.old at (plain_at text.now table.now i) result out.new }
+#[tactic(auto, unfolding(crate::specs::Flat::plain_at))]
+pub fn put_plain<S: Sink>(sheet: Sheet, i: usize, sink: &mut S)
+    ensures { S.puts sink.old (plain_at sheet.entry.text.now sheet.entry.table.now i) sink.new }
 {
-    let kind = word(table, i, 0);
-    if kind == LIST {
-        let at = put(out, live, at, 91);
-        return put(out, live, at, 93);
+    if sheet.is(i, RecordKind::List) {
+        sink.put_all(b"[]");
+    } else if sheet.is(i, RecordKind::Map) {
+        sink.put_all(b"{}");
+    } else {
+        sink.put_all(sheet.text_at(i));
     }
-    if kind == MAP {
-        let at = put(out, live, at, 123);
-        return put(out, live, at, 125);
-    }
-    put_text(text, table, i, out, live, at)
-}
-
-fn put_comma(j: usize, end: usize, out: &mut [u8], live: bool, at: usize) -> usize
-    ensures { Wrote live out.old at (comma_at j end) result out.new }
-{
-    if j < end {
-        let at = put(out, live, at, 44);
-        return put(out, live, at, 32);
-    }
-    at
 }
 
 // The simple values from record i up to `end`.
-fn one_line(
-    text: &[u8],
-    table: &[u32],
-    i: usize,
-    end: usize,
-    out: &mut [u8],
-    live: bool,
-    at: usize,
-) -> usize
-    requires { (j : ℕ) → i ≤ j → j < end → Plain text.now table.now j }
-    ensures { Wrote live out.old at (plain_line text.now table.now i (end - i)) result out.new }
+fn one_line<S: Sink>(sheet: Sheet, i: usize, end: usize, sink: &mut S)
+    ensures { S.puts sink.old (plain_line sheet.entry.text.now sheet.entry.table.now i (end - i)) sink.new }
 {
-    let mut at = at;
-    let mut j = i;
-    while j < end {
-        at = put_plain(text, table, j, out, live, at);
-        j += 1;
-        at = put_comma(j, end, out, live, at);
+    for j in i..end {
+        put_plain(sheet, j, sink);
+        if j + 1 < end {
+            sink.put_all(b", ");
+        }
     }
-    at
 }
 
 // Simple values between brackets.
-fn put_row(
-    text: &[u8],
-    table: &[u32],
-    i: usize,
-    end: usize,
-    left: u8,
-    right: u8,
-    out: &mut [u8],
-    live: bool,
-    at: usize,
-) -> usize
-    requires { (j : ℕ) → i ≤ j → j < end → Plain text.now table.now j }
-    ensures { Wrote live out.old at ((left ∷ []) ++ plain_line text.now table.now i (end - i) ++ (right ∷ [])) result out.new }
+fn put_row<S: Sink>(sheet: Sheet, i: usize, end: usize, left: u8, right: u8, sink: &mut S)
+    ensures { S.puts sink.old ((left ∷ []) ++ plain_line sheet.entry.text.now sheet.entry.table.now i (end - i) ++ (right ∷ [])) sink.new }
 {
-    let at = put(out, live, at, left);
-    let at = one_line(text, table, i, end, out, live, at);
-    put(out, live, at, right)
+    sink.put(left);
+    one_line(sheet, i, end, sink);
+    sink.put(right);
 }
 
 // A list or variant with something in it that needs no lines.
-pub fn put_flat(
-    text: &[u8],
-    table: &[u32],
-    i: usize,
-    out: &mut [u8],
-    live: bool,
-    at: usize,
-) -> usize
-    requires { (i < length table.now) × (SomeValue text.now table.now i) × (flat_at text.now table.now i ≡ true) × (word table.now i 4 ≡ 1 → ⊥) }
-    ensures { (o : Settings) (n : ℕ) (v : TokenValue) → ValueAt text.now table.now i v → Wrote live out.old at (value o n v) result out.new }
+pub fn put_flat<S: Sink>(sheet: Sheet, i: usize, sink: &mut S)
+    requires inside { i < length sheet.table.now }
+    requires value { SomeValue sheet.text.now sheet.table.now i }
+    requires flat { flat_at sheet.text.now sheet.table.now i ≡ true }
+    requires something { 1 < word sheet.table.now i 4 }
+    ensures { (o : Settings) (n : ℕ) (v : TokenValue) → ValueAt sheet.entry.text.now sheet.entry.table.now i v → S.puts sink.old (value o n v) sink.new }
 {
-    let size = word(table, i, 4);
-    if word(table, i, 0) == LIST {
-        return put_row(text, table, i + 1, i + size, 91, 93, out, live, at);
+    let end = sheet.behind(i);
+    if sheet.is(i, RecordKind::List) {
+        put_row(sheet, i + 1, end, b'[', b']', sink);
+    } else {
+        sink.put_all(sheet.text_at(i));
+        put_row(sheet, i + 1, end, b'(', b')', sink);
     }
-    let at = put_text(text, table, i, out, live, at);
-    put_row(text, table, i + 1, i + size, 40, 41, out, live, at)
 }

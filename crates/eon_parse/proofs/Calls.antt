@@ -1,41 +1,40 @@
--- What the calls answer is what `Calls` says of a checked text. Assumes nothing.
+-- What the calls answer is what `Calls` says of a text. Assumes nothing.
+use Rattle.std.specs.Prelude.{Result, Ok, Err}
 use mathlib.Core.Path.{◌≡◌, refl, sym, ap, ◌∙◌, subst}
 use mathlib.Core.Bool.{Bool, true, false, ◌&&◌, cond}
 use mathlib.Core.List.{List, [], ◌∷◌}
-use Prim.Native.Nat.{ℕ, suc, ◌+◌, ◌-◌, ◌*◌, ◌≤◌, ◌<◌}
+use Prim.Native.Nat.{ℕ, suc, ◌+◌, ◌*◌, ◌≤◌, ◌<◌}
 use native.Mathlib.Omega.{arith}
 use lib.ListN.{length, get_or, take, drop, drop_of_length-le}
 use lib.Seq.{sets, drop-cons}
 use lib.Dec.{eqb, ltb}
 use borrow.Author.Tests.{le-leb, lt-leb, ltb-true, ltb-false}
 use Rattle.eon_spec.specs.Base.{eq_list}
+use Rattle.eon_spec.specs.Refused.{refusal_of}
+use Rattle.eon_spec.specs.Refused as paper
+use Rattle.eon_spec.specs.declared.refusal.Refusal.{Refusal}
+use Rattle.eon_spec.specs.declared.refusal.Reason.TheVariants.{Surplus}
 use Rattle.eon_spec.specs.Utf8.{is_utf8, well_formed_len}
 use Rattle.eon_spec.specs.Tree.{Span, TokenTree}
-use Rattle.eon_spec.specs.declared.Refusal.{Refusal}
-use Rattle.eon_spec.specs.Parse.{refusal, Parsed, parsed, refused_by, parse}
+use Rattle.eon_spec.specs.Parse.{refusal as at_paper, Parsed, parsed, refused_by, parse}
 use Rattle.eon_spec.specs.Records.{words, tree_records}
+use Rattle.eon_laws.proofs.Facts.{list_same}
 use Rattle.eon_laws.proofs.Records.{words_length}
 use Rattle.eon_laws.proofs.Checked.{checked_long, checked_bad, checked_good}
 use Rattle.eon_spec.specs.Calls.{Outcome, done, refused_with, nowhere, parsed_outcome, read_text, then, written, after, outcome_of, fill, read_call, is_finished, read_finished}
-use Rattle.eon_token.specs.Place.{span, kind_at, next_span, Spot, place_of, cursor_at}
-use Rattle.eon_parse.specs.Walk.{Out, refuse, got, Records, one, two, inside, header, below, stops, run, end_of}
+use Rattle.eon_token.specs.Place.{span, kind_at, next_span, Spot}
+use Rattle.eon_parse.specs.Walk.{refused_at, Out, refuse, got, Records, one, two, inside, header, below, stops, run, end_of}
 use Rattle.eon_parse.specs.Top.{Shape, denied, asMap, asSingle, asSeveral, Whole, denies, gives, whole_of, shape_whole, ended, several_by, list_by, map_by, top_at}
-use Rattle.eon_parse.specs.Tops.{top_view}
-use Rattle.eon_parse.specs.Answer.{agrees, holds}
-use Rattle.eon_parse.specs.Call.{FilledW, FilledO, count_of, placed_answer}
-use Rattle.eon_parse.specs.declared.Top.TheVariants.{Denied, Map, Single, Several}
-use Rattle.eon_spec.specs.declared.Answer.{Answer}
-use Rattle.eon_spec.specs.declared.Answer.TheVariants.{Done, Refused}
+use Rattle.eon_parse.specs.Tops.{Starts, topped, top_view, Held}
+use Rattle.eon_parse.specs.Answer.{place, agrees, holds, stored, Stored}
+use Rattle.eon_parse.specs.Call.{count_of}
 use Rattle.eon_token.proofs.Places.{start_spot}
+use Rattle.eon_parse.specs.declared.walk.Walk.{Walk}
+use Rattle.eon_parse.specs.declared.top.Top.{Top}
+use Rattle.eon_parse.specs.declared.top.Form.TheVariants as form
 use Rattle.eon_parse.proofs.Left.{map_reach, list_reach, one_far, below_far}
-use Rattle.eon_parse.proofs.Laws.{Came, Failed}
-use Rattle.eon_parse.proofs.Fill.{Page, page, emit_p, finish_P}
-use Rattle.eon_parse.specs.Answer.{stored}
-use Rattle.eon_parse.specs.Call.{whole_words}
-use Rattle.eon_token.specs.declared.cursor.Cursor.{Cursor}
-use Rattle.eon_parse.specs.declared.Walk.{Walk}
-use Rattle.eon_parse.specs.declared.Stop.{Stop}
 use Rattle.eon_parse.proofs.Store.{sets_front}
+use Rattle.eon_parse.proofs.Tops.{start_place, start_count}
 use Rattle.eon_parse.proofs.Whole.{whole_is}
 
 -- ---- the comparison is the definition's
@@ -99,28 +98,6 @@ module _ (s tb : List ℕ) (u8 : is_utf8 s ≡ true) (short : length s ≤ 65535
   unfolding read_finished
   fin_is = ap (λ (o : Outcome TokenTree). then (then o (finish tb)) count_of) text_is ∙ then_fin tb (parse s) ∙ ap (fin_out tb) (whole_is s u8)
 
-  -- ---- reading
-
-  abbrev Reads : Answer → List ℕ → Type 0
-  Reads a tb' = after (outcome_of a) tb' ≡ read_call s tb
-
-  denied_out : (r : Refusal) → shape_whole (top_at s) ≡ denies r → Reads (Refused r) tb
-  unfolding fill
-  denied_out r e = sym (read_is ∙ ap (λ (w : Whole). fill tb (whole_out w)) e)
-
-  room_out : (ts : Records) → shape_whole (top_at s) ≡ gives ts → 5 * length ts ≤ length tb → (tb' : List ℕ) → tb' ≡ sets tb 0 (words ts) → Reads (Done (length ts)) tb'
-  unfolding fill
-  room_out ts e h tb' f =
-      let k : length (words ts) ≤ length tb = omega (arith, words_length ts) in
-      let q : read_call s tb ≡ after (done (length ts)) (written (words ts) tb) = read_is ∙ ap (λ (w : Whole). fill tb (whole_out w)) e ∙ rw (le-leb (length (words ts)) (length tb) k, fill) in
-      ap (after (done (length ts))) (f ∙ sets_front tb (words ts) (length (words ts)) refl k) ∙ sym q
-
-  full_out : (ts : Records) → shape_whole (top_at s) ≡ gives ts → length tb < 5 * length ts → Reads (placed_answer 14 0) tb
-  unfolding fill
-  full_out ts e h =
-      let k : length tb < length (words ts) = omega (arith, words_length ts) in
-      sym (read_is ∙ ap (λ (w : Whole). fill tb (whole_out w)) e ∙ rw (lt-leb (length (words ts)) (length tb) k, fill))
-
   -- ---- the ways to a shape
 
   abbrev map_o : Out Records
@@ -140,7 +117,7 @@ module _ (s tb : List ℕ) (u8 : is_utf8 s ≡ true) (short : length s ≤ 65535
 
   end_way : (l : Span) (x : Shape) → Way x → Way (ended s l x)
   unfolding ended
-  end_way l x w = go (eqb (kind_at s l) 16) (refusal 13 (next_span s l))
+  end_way l x w = go (eqb (kind_at s l) 16) (refused_at Surplus (next_span s l))
     where
       go : (b : Bool) (r : Refusal) → Way (cond b x (denied r))
       go true r = w
@@ -169,197 +146,181 @@ module _ (s tb : List ℕ) (u8 : is_utf8 s ≡ true) (short : length s ≤ 65535
   unfolding top_at
   way = maps_way map_o refl
 
-  -- ---- by what was scanned
-
   clash : {A : Type 0} → ◌≡◌ {A = ℕ} 0 1 → A
   clash z = absurd (omega arith)
 
-  module _ (b : Bool) where
-    pub was_denied : (r : Refusal) → top_view tb b (top_at s) ≡ Denied r → (q : Refusal) × (top_at s ≡ denied q) × (r ≡ q)
-    was_denied r e = go (top_at s) e
+  -- ---- what the walk tells of the text
+
+  pub record Told (x : Shape) (old : List ℕ) (b : Bool) (t : Top) : Type 0 where
+    pub records : Records
+    pub gives_it : shape_whole x ≡ gives records
+    pub count : t.count ≡ length records
+    pub same : t.same ≡ cond b (agrees old 0 (words records)) false
+
+  pub told : (x : Shape) (old : List ℕ) (b : Bool) (t : Top) → top_view old b x ≡ Ok t → Told x old b t
+  told (denied r) old b t e = clash cc
+  told (asMap ts) old b t e = record { records = ts; gives_it = refl; count = cc; same = cc }
+  told (asSingle ts) old b t e = record { records = ts; gives_it = refl; count = cc; same = cc }
+  told (asSeveral ts) old b t e = record { records = ts; gives_it = refl; count = cc; same = cc }
+
+  pub untold : (x : Shape) (old : List ℕ) (b : Bool) (r : Refusal) → top_view old b x ≡ Err r → shape_whole x ≡ denies (refusal_of r)
+  untold (denied q) old b r e = let z : q ≡ r = cc in ap (λ (y : Refusal). denies (refusal_of y)) z
+  untold (asMap ts) old b r e = clash cc
+  untold (asSingle ts) old b r e = clash cc
+  untold (asSeveral ts) old b r e = clash cc
+
+  few_of : (x : Shape) → Way x → (ts : Records) → shape_whole x ≡ gives ts → length ts ≤ length s + 1
+  few_of x (no_way r e) ts f = let z = sym (ap shape_whole e) ∙ f in clash cc
+  few_of x (map_way us l o e) ts f =
+      let g : (0 + length us ≤ l.end) × Spot s l = rw o at (map_reach s (below 128 s) (below_far 128 s) (span 0 0) (start_spot s u8)) in
+      let z : gives (header 5 0 0 (length s) us ∷ us) ≡ gives ts = sym (ap shape_whole e) ∙ f in
+      let q : header 5 0 0 (length s) us ∷ us ≡ ts = cc in
+      omega (arith, g.0, g.1.within, ap (λ (l : Records). length l) q)
+  few_of x (one_way us l o e) ts f =
+      let g : (0 + length us ≤ l.end) × (0 < l.end) × Spot s l = rw o at (one_far s (below 128 s) (below_far 128 s) (span 0 0) (start_spot s u8)) in
+      let z : gives us ≡ gives ts = sym (ap shape_whole e) ∙ f in
+      let q : us ≡ ts = cc in
+      omega (arith, g.0, g.2.within, ap (λ (l : Records). length l) q)
+  few_of x (list_way us l o e) ts f =
+      let g : (0 + length us ≤ l.end) × Spot s l = rw o at (list_reach s (below 128 s) (below_far 128 s) (span 0 0) (start_spot s u8)) in
+      let z : gives (header 4 0 0 (length s) us ∷ us) ≡ gives ts = sym (ap shape_whole e) ∙ f in
+      let q : header 4 0 0 (length s) us ∷ us ≡ ts = cc in
+      omega (arith, g.0, g.1.within, ap (λ (l : Records). length l) q)
+
+  pub few : (ts : Records) → shape_whole (top_at s) ≡ gives ts → length ts ≤ length s + 1
+  few = few_of (top_at s) way
+
+  pub few_told : (old : List ℕ) (b : Bool) (t : Top) → top_view old b (top_at s) ≡ Ok t → t.count ≤ 65536
+  few_told old b t e = let k = told (top_at s) old b t e in omega (arith, k.count, few k.records k.gives_it, short)
+
+  -- ---- reading
+
+  pub read_no : (old : List ℕ) (b : Bool) (r : Refusal) → top_view old b (top_at s) ≡ Err r → after (refused_with (refusal_of r)) tb ≡ read_call s tb
+  unfolding fill
+  read_no old b r e = sym (read_is ∙ ap (λ (w : Whole). fill tb (whole_out w)) (untold (top_at s) old b r e))
+
+  pub read_full : (old : List ℕ) (b : Bool) (t : Top) → top_view old b (top_at s) ≡ Ok t → length tb < 5 * t.count → after (refused_with (nowhere 14)) tb ≡ read_call s tb
+  unfolding fill
+  read_full old b t e h =
+      let k = told (top_at s) old b t e in
+      let n : length tb < length (words k.records) = omega (arith, words_length k.records, k.count) in
+      sym (read_is ∙ ap (λ (w : Whole). fill tb (whole_out w)) k.gives_it ∙ rw (lt-leb (length (words k.records)) (length tb) n, fill))
+
+  room : (ts : Records) → shape_whole (top_at s) ≡ gives ts → (n : ℕ) → n ≡ length ts → 5 * n ≤ length tb → (tb' : List ℕ) → tb' ≡ sets tb 0 (words ts) → after (done n) tb' ≡ read_call s tb
+  unfolding fill
+  room ts e n c h tb' f =
+      let k : length (words ts) ≤ length tb = omega (arith, words_length ts) in
+      let q : read_call s tb ≡ after (done (length ts)) (written (words ts) tb) = read_is ∙ ap (λ (w : Whole). fill tb (whole_out w)) e ∙ rw (le-leb (length (words ts)) (length tb) k, fill) in
+      ap (λ (m : ℕ). after (done m) tb') c ∙ ap (after (done (length ts))) (f ∙ sets_front tb (words ts) (length (words ts)) refl k) ∙ sym q
+
+  module _ (w : Walk) (st : Starts s w) (old : List ℕ) (b : Bool) (t : Top) (e : top_view old b (top_at s) ≡ Ok t) (h : 5 * t.count ≤ length tb) (tb' : List ℕ) where
+    at_start : (ts : Records) → tb' ≡ stored tb w ts → tb' ≡ sets tb 0 (words ts)
+    at_start ts f = f ∙ ap (λ (n : ℕ). sets tb (5 * n) (words ts)) (start_count s w st)
+
+    filled : (o : Out Records) (ts : Records) (l : Span) → o ≡ got ts l → (x : Shape) → top_at s ≡ x → shape_whole x ≡ gives ts → t.count ≡ length ts → Stored tb w o tb' → after (done t.count) tb' ≡ read_call s tb
+    filled o ts l q x p g c f = room ts (ap shape_whole p ∙ g) t.count c h tb' (at_start ts (subst (λ (z : Out Records). Stored tb w z tb') q f))
+
+    pub read_map : t.form ≡ form.Map → Stored tb w (topped (length s) 5 map_o) tb' → after (done t.count) tb' ≡ read_call s tb
+    read_map f g = go way
       where
-        go : (x : Shape) → top_view tb b x ≡ Denied r → (q : Refusal) × (x ≡ denied q) × (r ≡ q)
-        go (denied q) f = (q, refl, cc)
-        go (asMap ts) f = clash (cc)
-        go (asSingle ts) f = clash (cc)
-        go (asSeveral ts) f = clash (cc)
+        go : Way (top_at s) → after (done t.count) tb' ≡ read_call s tb
+        go (no_way r x) = let z = sym (ap (top_view old b) x) ∙ e in clash cc
+        go (map_way ts l o x) = let z = sym (ap (top_view old b) x) ∙ e in filled (topped (length s) 5 map_o) (header 5 0 0 (length s) ts ∷ ts) l (ap (topped (length s) 5) o) _ x refl (cc) g
+        go (one_way ts l o x) = let z = sym (ap (top_view old b) x) ∙ e in let q : form.Single ≡ t.form = cc in clash cc
+        go (list_way ts l o x) = let z = sym (ap (top_view old b) x) ∙ e in let q : form.Several ≡ t.form = cc in clash cc
 
-    abbrev Got : Records → ℕ → Bool → Type 0
-    Got ts n z = (n ≡ length ts) × (z ≡ cond b (agrees tb 0 (words ts)) false)
-
-    pub was_map : (n : ℕ) (z : Bool) → top_view tb b (top_at s) ≡ Map n z → (ts : Records) × (l : Span) × (map_o ≡ got ts l) × (top_at s ≡ asMap (header 5 0 0 (length s) ts ∷ ts)) × Got (header 5 0 0 (length s) ts ∷ ts) n z
-    was_map n z e = go way
+    pub read_single : t.form ≡ form.Single → Stored tb w (one s (below 128 s) (place w)) tb' → after (done t.count) tb' ≡ read_call s tb
+    read_single f g = go way
       where
-        go : Way (top_at s) → (ts : Records) × (l : Span) × (map_o ≡ got ts l) × (top_at s ≡ asMap (header 5 0 0 (length s) ts ∷ ts)) × Got (header 5 0 0 (length s) ts ∷ ts) n z
-        go (no_way r x) = let f = sym (ap (top_view tb b) x) ∙ e in clash (cc)
-        go (map_way ts l o x) = let f = sym (ap (top_view tb b) x) ∙ e in (ts, l, o, x, (cc, cc))
-        go (one_way ts l o x) = let f = sym (ap (top_view tb b) x) ∙ e in clash (cc)
-        go (list_way ts l o x) = let f = sym (ap (top_view tb b) x) ∙ e in clash (cc)
+        go : Way (top_at s) → after (done t.count) tb' ≡ read_call s tb
+        go (no_way r x) = let z = sym (ap (top_view old b) x) ∙ e in clash cc
+        go (map_way ts l o x) = let z = sym (ap (top_view old b) x) ∙ e in let q : form.Map ≡ t.form = cc in clash cc
+        go (one_way ts l o x) = let z = sym (ap (top_view old b) x) ∙ e in filled (one s (below 128 s) (place w)) ts l (ap (one s (below 128 s)) (start_place s w st) ∙ o) _ x refl (cc) g
+        go (list_way ts l o x) = let z = sym (ap (top_view old b) x) ∙ e in let q : form.Several ≡ t.form = cc in clash cc
 
-    pub was_single : (n : ℕ) (z : Bool) → top_view tb b (top_at s) ≡ Single n z → (ts : Records) × (l : Span) × (one_o ≡ got ts l) × (top_at s ≡ asSingle ts) × Got ts n z
-    was_single n z e = go way
+    pub read_several : t.form ≡ form.Several → Stored tb w (topped (length s) 4 list_o) tb' → after (done t.count) tb' ≡ read_call s tb
+    read_several f g = go way
       where
-        go : Way (top_at s) → (ts : Records) × (l : Span) × (one_o ≡ got ts l) × (top_at s ≡ asSingle ts) × Got ts n z
-        go (no_way r x) = let f = sym (ap (top_view tb b) x) ∙ e in clash (cc)
-        go (map_way ts l o x) = let f = sym (ap (top_view tb b) x) ∙ e in clash (cc)
-        go (one_way ts l o x) = let f = sym (ap (top_view tb b) x) ∙ e in (ts, l, o, x, (cc, cc))
-        go (list_way ts l o x) = let f = sym (ap (top_view tb b) x) ∙ e in clash (cc)
-
-    pub was_several : (n : ℕ) (z : Bool) → top_view tb b (top_at s) ≡ Several n z → (ts : Records) × (l : Span) × (list_o ≡ got ts l) × (top_at s ≡ asSeveral (header 4 0 0 (length s) ts ∷ ts)) × Got (header 4 0 0 (length s) ts ∷ ts) n z
-    was_several n z e = go way
-      where
-        go : Way (top_at s) → (ts : Records) × (l : Span) × (list_o ≡ got ts l) × (top_at s ≡ asSeveral (header 4 0 0 (length s) ts ∷ ts)) × Got (header 4 0 0 (length s) ts ∷ ts) n z
-        go (no_way r x) = let f = sym (ap (top_view tb b) x) ∙ e in clash (cc)
-        go (map_way ts l o x) = let f = sym (ap (top_view tb b) x) ∙ e in clash (cc)
-        go (one_way ts l o x) = let f = sym (ap (top_view tb b) x) ∙ e in clash (cc)
-        go (list_way ts l o x) = let f = sym (ap (top_view tb b) x) ∙ e in (ts, l, o, x, (cc, cc))
-
-  pub few_map : (b : Bool) (n : ℕ) (z : Bool) → top_view tb b (top_at s) ≡ Map n z → n ≤ 70000
-  few_map b n z e =
-      let d = was_map b n z e in
-      let f : (0 + length d.0 ≤ d.1.end) × Spot s d.1 = rw d.2 at (map_reach s (below 128 s) (below_far 128 s) (span 0 0) (start_spot s u8)) in
-      omega (arith, d.4.0, f.0, f.1.within)
-
-  pub few_single : (b : Bool) (n : ℕ) (z : Bool) → top_view tb b (top_at s) ≡ Single n z → n ≤ 70000
-  few_single b n z e =
-      let d = was_single b n z e in
-      let f : (0 + length d.0 ≤ d.1.end) × (0 < d.1.end) × Spot s d.1 = rw d.2 at (one_far s (below 128 s) (below_far 128 s) (span 0 0) (start_spot s u8)) in
-      omega (arith, d.4.0, f.0, f.2.within)
-
-  pub few_several : (b : Bool) (n : ℕ) (z : Bool) → top_view tb b (top_at s) ≡ Several n z → n ≤ 70000
-  few_several b n z e =
-      let d = was_several b n z e in
-      let f : (0 + length d.0 ≤ d.1.end) × Spot s d.1 = rw d.2 at (list_reach s (below 128 s) (below_far 128 s) (span 0 0) (start_spot s u8)) in
-      omega (arith, d.4.0, f.0, f.1.within)
-
-  pub reads_denied : (r : Refusal) → top_view tb false (top_at s) ≡ Denied r → Reads (Refused r) tb
-  reads_denied r e = let d = was_denied false r e in subst (λ (q : Refusal). Reads (Refused q) tb) (sym d.2) (denied_out d.0 (ap shape_whole d.1))
-
-  room : (ts : Records) (n : ℕ) → n ≡ length ts → shape_whole (top_at s) ≡ gives ts → 5 * n ≤ length tb → (tb' : List ℕ) → tb' ≡ sets tb 0 (words ts) → Reads (Done n) tb'
-  room ts n e f h tb' k = subst (λ (m : ℕ). Reads (Done m) tb') (sym e) (room_out ts f (omega arith) tb' k)
-
-  full : (ts : Records) (n : ℕ) → n ≡ length ts → shape_whole (top_at s) ≡ gives ts → length tb < 5 * n → Reads (placed_answer 14 0) tb
-  full ts n e f h = full_out ts f (omega arith)
-
-  pub reads_map : (n : ℕ) (z : Bool) → top_view tb false (top_at s) ≡ Map n z → 5 * n ≤ length tb → (tb' : List ℕ) → FilledW (length s) 5 tb map_o tb' → Reads (Done n) tb'
-  reads_map n z e h tb' f =
-      let d = was_map false n z e in
-      room (header 5 0 0 (length s) d.0 ∷ d.0) n d.4.0 (ap shape_whole d.3) h tb' (subst (λ (o : Out Records). FilledW (length s) 5 tb o tb') d.2 f)
-
-  pub reads_map_full : (n : ℕ) (z : Bool) → top_view tb false (top_at s) ≡ Map n z → length tb < 5 * n → Reads (placed_answer 14 0) tb
-  reads_map_full n z e h = let d = was_map false n z e in full (header 5 0 0 (length s) d.0 ∷ d.0) n d.4.0 (ap shape_whole d.3) h
-
-  pub reads_single : (n : ℕ) (z : Bool) → top_view tb false (top_at s) ≡ Single n z → 5 * n ≤ length tb → (tb' : List ℕ) → FilledO tb one_o tb' → Reads (Done n) tb'
-  reads_single n z e h tb' f =
-      let d = was_single false n z e in
-      room d.0 n d.4.0 (ap shape_whole d.3) h tb' (subst (λ (o : Out Records). FilledO tb o tb') d.2 f)
-
-  pub reads_single_full : (n : ℕ) (z : Bool) → top_view tb false (top_at s) ≡ Single n z → length tb < 5 * n → Reads (placed_answer 14 0) tb
-  reads_single_full n z e h = let d = was_single false n z e in full d.0 n d.4.0 (ap shape_whole d.3) h
-
-  pub reads_several : (n : ℕ) (z : Bool) → top_view tb false (top_at s) ≡ Several n z → 5 * n ≤ length tb → (tb' : List ℕ) → FilledW (length s) 4 tb list_o tb' → Reads (Done n) tb'
-  reads_several n z e h tb' f =
-      let d = was_several false n z e in
-      room (header 4 0 0 (length s) d.0 ∷ d.0) n d.4.0 (ap shape_whole d.3) h tb' (subst (λ (o : Out Records). FilledW (length s) 4 tb o tb') d.2 f)
-
-  pub reads_several_full : (n : ℕ) (z : Bool) → top_view tb false (top_at s) ≡ Several n z → length tb < 5 * n → Reads (placed_answer 14 0) tb
-  reads_several_full n z e h = let d = was_several false n z e in full (header 4 0 0 (length s) d.0 ∷ d.0) n d.4.0 (ap shape_whole d.3) h
+        go : Way (top_at s) → after (done t.count) tb' ≡ read_call s tb
+        go (no_way r x) = let z = sym (ap (top_view old b) x) ∙ e in clash cc
+        go (map_way ts l o x) = let z = sym (ap (top_view old b) x) ∙ e in let q : form.Map ≡ t.form = cc in clash cc
+        go (one_way ts l o x) = let z = sym (ap (top_view old b) x) ∙ e in let q : form.Single ≡ t.form = cc in clash cc
+        go (list_way ts l o x) = let z = sym (ap (top_view old b) x) ∙ e in filled (topped (length s) 4 list_o) (header 4 0 0 (length s) ts ∷ ts) l (ap (topped (length s) 4) o) _ x refl (cc) g
 
   -- ---- a finished table
 
-  abbrev Fin : Answer → Type 0
-  Fin a = outcome_of a ≡ then (read_finished s tb) count_of
+  pub finished_no : (r : Refusal) → top_view tb true (top_at s) ≡ Err r → refused_with (refusal_of r) ≡ then (read_finished s tb) count_of
+  finished_no r e = sym (fin_is ∙ ap (fin_out tb) (untold (top_at s) tb true r e))
 
-  pub fin_denied : (r : Refusal) → top_view tb true (top_at s) ≡ Denied r → Fin (Refused r)
-  fin_denied r e = let d = was_denied true r e in ap refused_with d.2 ∙ sym (fin_is ∙ ap (λ (x : Shape). fin_out tb (shape_whole x)) d.1)
+  pub finished_by : (t : Top) → top_view tb true (top_at s) ≡ Ok t → cond t.same (done t.count) (refused_with (nowhere 15)) ≡ then (read_finished s tb) count_of
+  finished_by t e =
+      let k = told (top_at s) tb true t e in
+      ap (λ (x : Bool). cond x (done t.count) (refused_with (nowhere 15))) (k.same ∙ agrees_list tb (words k.records) 0)
+      ∙ ap (λ (m : ℕ). cond (eq_list (take (length (words k.records)) tb) (words k.records)) (done m) (refused_with (nowhere 15))) k.count
+      ∙ sym (fin_is ∙ ap (fin_out tb) k.gives_it)
 
-  fin_by : (ts : Records) (n : ℕ) (z : Bool) → shape_whole (top_at s) ≡ gives ts → n ≡ length ts → z ≡ agrees tb 0 (words ts) → Fin (cond z (Done n) (placed_answer 15 0))
-  fin_by ts n z e f g =
-      push z
-      ∙ ap (λ (x : Bool). cond x (done n) (refused_with (nowhere 15))) (g ∙ agrees_list tb (words ts) 0)
-      ∙ ap (λ (m : ℕ). cond (eq_list (take (length (words ts)) tb) (words ts)) (done m) (refused_with (nowhere 15))) f
-      ∙ sym (fin_is ∙ ap (fin_out tb) e)
+  -- ---- a text in one walk
+
+  pub record Once (a : Result ℕ Refusal) (tb' : List ℕ) : Type 0 where
+    pub count : outcome_of a ≡ then (read_text s) count_of
+    pub table : read_finished s tb' ≡ read_text s
+
+  once_of : (tb' : List ℕ) (p : Parsed) (a : Result ℕ Refusal) → outcome_of a ≡ then (parsed_outcome p) count_of → then (parsed_outcome p) (finish tb') ≡ parsed_outcome p → read_text s ≡ parsed_outcome p → Once a tb'
+  unfolding read_finished
+  once_of tb' p a e f g = record { count = e ∙ ap (λ (o : Outcome TokenTree). then o count_of) (sym g); table = ap (λ (o : Outcome TokenTree). then o (finish tb')) g ∙ f ∙ sym g }
+
+  once_denied : (tb' : List ℕ) (p : Parsed) (r : Refusal) → whole_of p ≡ denies (refusal_of r) → read_text s ≡ parsed_outcome p → Once (Err r) tb'
+  once_denied tb' (parsed t) r e g = clash cc
+  once_denied tb' (refused_by q) r e g = let z : q ≡ refusal_of r = cc in once_of tb' (refused_by q) (Err r) (ap refused_with (sym z)) refl g
+
+  once_given : (tb' : List ℕ) (p : Parsed) (n : ℕ) (ts : Records) → whole_of p ≡ gives ts → n ≡ length ts → take (length (words ts)) tb' ≡ words ts → read_text s ≡ parsed_outcome p → Once (Ok n) tb'
+  unfolding is_finished
+  once_given tb' (refused_by q) n ts e c h g = clash cc
+  once_given tb' (parsed t) n ts e c h g =
+      let z : tree_records t ≡ ts = cc in
+      once_of tb' (parsed t) (Ok n) (ap done (c ∙ ap (λ (l : Records). length l) (sym z)))
+      (is_there (is_finished tb' t) (ap (λ (l : Records). eq_list (take (length (words l)) tb') (words l)) z ∙ ap (λ (l : List ℕ). eq_list l (words ts)) h ∙ list_same (words ts))) g
     where
-      push : (x : Bool) → outcome_of (cond x (Done n) (placed_answer 15 0)) ≡ cond x (done n) (refused_with (nowhere 15))
-      push true = refl
-      push false = refl
+      is_there : (b : Bool) → b ≡ true → elim b as (λ x. Outcome TokenTree) [ true ↦ done t | false ↦ refused_with (nowhere 15) ] ≡ done t
+      is_there true e = refl
+      is_there false e = clash (ap (λ (b : Bool). cond b 1 0) e)
 
-  pub fin_map : (n : ℕ) (z : Bool) → top_view tb true (top_at s) ≡ Map n z → Fin (cond z (Done n) (placed_answer 15 0))
-  fin_map n z e = let d = was_map true n z e in fin_by (header 5 0 0 (length s) d.0 ∷ d.0) n z (ap shape_whole d.3) d.4.0 d.4.1
+  module _ (old : List ℕ) (b : Bool) (tb' : List ℕ) where
+    pub once_no : (r : Refusal) → top_view old b (top_at s) ≡ Err r → Once (Err r) tb'
+    once_no r e = once_denied tb' (parse s) r (whole_is s u8 ∙ untold (top_at s) old b r e) text_is
 
-  pub fin_single : (n : ℕ) (z : Bool) → top_view tb true (top_at s) ≡ Single n z → Fin (cond z (Done n) (placed_answer 15 0))
-  fin_single n z e = let d = was_single true n z e in fin_by d.0 n z (ap shape_whole d.3) d.4.0 d.4.1
-
-  pub fin_several : (n : ℕ) (z : Bool) → top_view tb true (top_at s) ≡ Several n z → Fin (cond z (Done n) (placed_answer 15 0))
-  fin_several n z e = let d = was_several true n z e in fin_by (header 4 0 0 (length s) d.0 ∷ d.0) n z (ap shape_whole d.3) d.4.0 d.4.1
-
--- ---- a whole text is filled in
-
-module _ (s tb : List ℕ) where
-  abbrev first : Cursor → ℕ → Walk
-  first c n = record { cursor = c; count = n; same = false }
-
-  whole_fill : (kind : ℕ) (o : Out Records) (x : Walk) (tb₁ tb₂ : List ℕ) → Came o (λ t n. page x tb₁ ≡ emit_p s (page (first (cursor_at s (span 0 0)) 1) tb) t n)
-      → tb₂ ≡ sets tb₁ 0 (whole_words x.count kind (length s)) → FilledW (length s) kind tb o tb₂
-  whole_fill kind o x tb₁ tb₂ c e =
-      subst (λ (z : Out Records). FilledW (length s) kind tb z tb₂) (sym c.is)
-      (e
-      ∙ ap (λ (σ : Page). sets σ.tab 0 (whole_words σ.cur.count kind (length s))) c.so
-      ∙ ap (λ (n : ℕ). sets (stored tb (first (cursor_at s (span 0 0)) 1) c.what) 0 (whole_words n kind (length s))) less
-      ∙ ap (λ (σ : Page). σ.tab) (finish_P s (page (first (cursor_at s (span 0 0)) 0) tb) (span 0 0) c.what c.next (span 0 (length s)) kind 0 0))
-    where
-      less : 1 + length c.what ≡ 1 + length c.what - 0
-      less = omega arith
-
-  module _ (c : Cursor) (cE : c ≡ cursor_at s (span 0 0)) (step : Span → Out Records) where
-    pub fill_whole : (kind : ℕ) (x : Walk) (tb₁ tb₂ : List ℕ) → Came (inside s step (place_of c)) (λ t n. page x tb₁ ≡ emit_p s (page (first c 1) tb) t n)
-        → tb₂ ≡ sets tb₁ 0 (whole_words x.count kind (length s)) → FilledW (length s) kind tb (inside s step (span 0 0)) tb₂
-    fill_whole kind x tb₁ tb₂ k e =
-        whole_fill kind (inside s step (span 0 0)) x tb₁ tb₂ (subst (λ (y : Cursor). Came (inside s step (place_of y)) (λ t n. page x tb₁ ≡ emit_p s (page (first y 1) tb) t n)) cE k) e
-
-    pub fill_nothing : (kind : ℕ) (a : Stop) (tb₂ : List ℕ) → Failed (inside s step (place_of c)) a → FilledW (length s) kind tb (inside s step (span 0 0)) tb₂
-    fill_nothing kind a tb₂ f =
-        let k = subst (λ (y : Cursor). Failed (inside s step (place_of y)) a) cE f in
-        subst (λ (o : Out Records). FilledW (length s) kind tb o tb₂) (sym k.is) tt
-
-  module _ (c : Cursor) (cE : c ≡ cursor_at s (span 0 0)) (step : Span → Out Records) where
-    pub fill_one : (y : Walk) (tb₂ : List ℕ) → Came (step (place_of c)) (λ t n. page y tb₂ ≡ emit_p s (page (first c 0) tb) t n) → FilledO tb (step (span 0 0)) tb₂
-    fill_one y tb₂ k =
-        let j = subst (λ (z : Cursor). Came (step (place_of z)) (λ t n. page y tb₂ ≡ emit_p s (page (first z 0) tb) t n)) cE k in
-        subst (λ (o : Out Records). FilledO tb o tb₂) (sym j.is) (ap (λ (σ : Page). σ.tab) j.so)
-
-    pub fill_none : (a : Stop) (tb₂ : List ℕ) → Failed (step (place_of c)) a → FilledO tb (step (span 0 0)) tb₂
-    fill_none a tb₂ f =
-        let k = subst (λ (y : Cursor). Failed (step (place_of y)) a) cE f in
-        subst (λ (o : Out Records). FilledO tb o tb₂) (sym k.is) tt
+    pub once_yes : (t : Top) → top_view old b (top_at s) ≡ Ok t → 5 * (length s + 1) ≤ length tb → Held (shape_whole (top_at s)) tb tb' → Once (Ok t.count) tb'
+    once_yes t e h held =
+        let k = told (top_at s) old b t e in
+        let f : Held (gives k.records) tb tb' = subst (λ (x : Whole). Held x tb tb') k.gives_it held in
+        once_given tb' (parse s) t.count k.records (whole_is s u8 ∙ k.gives_it) k.count (f (omega (arith, words_length k.records, few k.records k.gives_it))) text_is
 
 -- ---- a text that is too long, or not UTF-8
 
 module _ (s tb : List ℕ) where
-  refused_read : (r : Refusal) → read_text s ≡ refused_with r → after (refused_with r) tb ≡ read_call s tb
+  refused_read : (r : paper.Refusal) → read_text s ≡ refused_with r → after (refused_with r) tb ≡ read_call s tb
   unfolding read_call fill
   refused_read r e = sym (ap (λ (o : Outcome TokenTree). fill tb (then o (λ t. done (length (tree_records t), words (tree_records t))))) e)
 
-  refused_fin : (r : Refusal) → read_text s ≡ refused_with r → refused_with r ≡ then (read_finished s tb) count_of
+  refused_fin : (r : paper.Refusal) → read_text s ≡ refused_with r → refused_with r ≡ then (read_finished s tb) count_of
   unfolding read_finished
   refused_fin r e = sym (ap (λ (o : Outcome TokenTree). then (then o (finish tb)) count_of) e)
 
-  pub long_text : 65535 < length s → read_text s ≡ refused_with (refusal 1 (span 65535 65535))
+  pub long_text : 65535 < length s → read_text s ≡ refused_with (at_paper 1 (span 65535 65535))
   unfolding read_text
   long_text h = checked_long s (λ t. parsed_outcome (parse t)) h
 
-  pub bad_text : length s ≤ 65535 → (n : ℕ) → n ≡ well_formed_len s → (n ≡ length s → ⊥) → read_text s ≡ refused_with (refusal 2 (span n n))
+  pub bad_text : length s ≤ 65535 → (n : ℕ) → n ≡ well_formed_len s → (n ≡ length s → ⊥) → read_text s ≡ refused_with (at_paper 2 (span n n))
   unfolding read_text
   bad_text h n e f = checked_bad s (λ t. parsed_outcome (parse t)) h n e f
 
-  pub read_long : 65535 < length s → after (outcome_of (placed_answer 1 65535)) tb ≡ read_call s tb
-  read_long h = refused_read (refusal 1 (span 65535 65535)) (long_text h)
+  -- a refusal of the text is the call's
+  pub read_refused : (r : Refusal) → read_text s ≡ refused_with (refusal_of r) → after (refused_with (refusal_of r)) tb ≡ read_call s tb
+  read_refused r e = refused_read (refusal_of r) e
 
-  pub fin_long : 65535 < length s → outcome_of (placed_answer 1 65535) ≡ then (read_finished s tb) count_of
-  fin_long h = refused_fin (refusal 1 (span 65535 65535)) (long_text h)
+  pub finished_refused : (r : Refusal) → read_text s ≡ refused_with (refusal_of r) → refused_with (refusal_of r) ≡ then (read_finished s tb) count_of
+  finished_refused r e = refused_fin (refusal_of r) e
 
-  pub read_bad : length s ≤ 65535 → (n : ℕ) → n ≡ well_formed_len s → (n ≡ length s → ⊥) → after (outcome_of (placed_answer 2 n)) tb ≡ read_call s tb
-  read_bad h n e f = refused_read (refusal 2 (span n n)) (bad_text h n e f)
-
-  pub fin_bad : length s ≤ 65535 → (n : ℕ) → n ≡ well_formed_len s → (n ≡ length s → ⊥) → outcome_of (placed_answer 2 n) ≡ then (read_finished s tb) count_of
-  fin_bad h n e f = refused_fin (refusal 2 (span n n)) (bad_text h n e f)
+  pub once_refused : (r : Refusal) → read_text s ≡ refused_with (refusal_of r) → read_finished s tb ≡ read_text s
+  unfolding read_finished
+  once_refused r e = ap (λ (o : Outcome TokenTree). then o (finish tb)) e ∙ sym e

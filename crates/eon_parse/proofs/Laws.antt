@@ -9,16 +9,19 @@ use native.Mathlib.Numerals.{towards_suc}
 use native.Mathlib.Omega.{arith}
 use lib.ListN.{length, length-append}
 use Rattle.eon_spec.specs.Tree.{Span}
-use Rattle.eon_spec.specs.declared.Refusal.{Refusal}
+use Rattle.eon_spec.specs.declared.refusal.Refusal.{Refusal}
 use Rattle.eon_spec.specs.Records.{words}
 use Rattle.eon_laws.proofs.Records.{words_length}
 use Rattle.eon_token.specs.Place.{cursor_at}
 use Rattle.eon_parse.specs.Walk.{Out, refuse, got, Records, Item, header, text_end, reader, below, item_at}
-use Rattle.eon_parse.specs.Answer.{agrees, holds, stop_of, place, emit, bared, counted, entered, moved, compared_at, expected, tailed}
-use Rattle.eon_parse.specs.declared.Walk.{Walk}
-use Rattle.eon_parse.specs.declared.Stop.{Stop}
-use Rattle.eon_parse.specs.declared.Bare.TheVariants.{Refused, Done}
-use Rattle.eon_parse.specs.declared.Got.TheVariants.{Stopped, Value}
+use Rattle.eon_spec.specs.RecordKind.{word_of}
+use Rattle.eon_spec.specs.declared.record_kind.RecordKind.{RecordKind}
+use Rattle.eon_parse.specs.Answer.{agrees, holds, stop_of, place, emit, bared, counted, entered, moved, begun, ended_at, expected, tailed, past}
+use Rattle.eon_parse.specs.declared.walk.Walk.{Walk}
+use Rattle.eon_parse.specs.declared.walk.Stop.{Stop}
+use Rattle.eon_parse.specs.declared.walk.Past.{Past}
+use Rattle.std.specs.Prelude.{Err, Ok}
+use Rattle.std.specs.Prelude.{Ok, Err}
 
 -- ---- tests
 
@@ -111,10 +114,10 @@ module _ (s tb : List ℕ) (w : Walk) where
   emit_moved f p n = refl
 
   -- a record that starts here and ends at p, with f inside
-  pub finish : (l : Span) (f : Records) (q p : Span) (kind start name : ℕ)
-      → compared_at (moved s (emit s tb (entered s w l) f q) p) tb w.count kind start name ≡ emit s tb w (header kind start name p.end f ∷ f) p
+  pub finish : (l : Span) (f : Records) (q p : Span) (k : RecordKind) (start name : ℕ)
+      → ended_at (moved s (emit s tb (entered s w l) f q) p) tb (begun k w.count start name) ≡ emit s tb w (header (word_of k) start name p.end f ∷ f) p
   unfolding emit
-  finish l f q p kind start name = λ i. record { cursor = cursor_at s p; count = count_eq i; same = same_eq i }
+  finish l f q p k start name = λ i. record { cursor = cursor_at s p; count = count_eq i; same = same_eq i }
     where
       count_eq : w.count + 1 + length f ≡ w.count + suc (length f)
       count_eq = omega arith
@@ -124,6 +127,9 @@ module _ (s tb : List ℕ) (w : Walk) where
 
       at_words : 5 * (w.count + 1) ≡ 5 * w.count + 5
       at_words = omega arith
+
+      kind : ℕ
+      kind = word_of k
 
       head : List ℕ
       head = kind ∷ start ∷ text_end kind name p.end ∷ p.end ∷ suc (length f) ∷ []
@@ -158,32 +164,34 @@ pub passed : {A B : Type 0} {o : Out A} {q : Out B} {x : Stop} → Failed o x �
 passed f h = record { why = f.why; far = f.far; is = h f.why f.far f.is; so = f.so }
 
 module _ (s tb : List ℕ) (w : Walk) where
-  pub was_refused : (o : Out Records) {x : Stop} → bared s tb w o ≡ Refused x → Failed o x
+  pub was_refused : (o : Out Records) {x : Stop} → bared s tb w o ≡ Err x → Failed o x
   unfolding bared
   was_refused (refuse r e) q = record { why = r; far = e; is = refl; so = cc }
   was_refused (got t n) q = let z : ◌≡◌ {A = ℕ} 0 1 = cc in absurd (omega arith)
 
-  pub was_done : (o : Out Records) {x : Walk} → bared s tb w o ≡ Done x → Came o (λ f n. x ≡ emit s tb w f n)
+  pub was_done : (o : Out Records) {x : Walk} → bared s tb w o ≡ Ok x → Came o (λ f n. x ≡ emit s tb w f n)
   unfolding bared
   was_done (refuse r e) q = let z : ◌≡◌ {A = ℕ} 0 1 = cc in absurd (omega arith)
   was_done (got t n) q = record { what = t; next = n; is = refl; so = cc }
 
-  pub was_stopped : (o : Out Item) {x : Stop} → counted s tb w o ≡ Stopped x → Failed o x
+  pub was_stopped : (o : Out Item) {x : Stop} → counted s tb w o ≡ Err x → Failed o x
   unfolding counted
   was_stopped (refuse r e) q = record { why = r; far = e; is = refl; so = cc }
   was_stopped (got t n) q = let z : ◌≡◌ {A = ℕ} 0 1 = cc in absurd (omega arith)
 
-  pub was_value : (o : Out Item) {x : Walk} {f : ℕ} → counted s tb w o ≡ Value x f → Came o (λ i n. (x ≡ emit s tb w i.body n) × (f ≡ i.from))
+  pub was_value : (o : Out Item) {x : Walk} {f : ℕ} → counted s tb w o ≡ past x f → Came o (λ i n. (x ≡ emit s tb w i.body n) × (f ≡ i.from))
   unfolding counted
   was_value (refuse r e) q = let z : ◌≡◌ {A = ℕ} 0 1 = cc in absurd (omega arith)
-  was_value (got i n) q = record { what = i; next = n; is = refl; so = (cc, cc) }
+  was_value (got i n) {x} {f} q =
+      let z : record { walk = emit s tb w i.body n; from = i.from } ≡ record { walk = x; from = f } = cc in
+      record { what = i; next = n; is = refl; so = (sym (ap (λ (y : Past). y.walk) z), sym (ap (λ (y : Past). y.from) z)) }
 
-pub not_expected : (s : List ℕ) (w : Walk) (o : Out (Unit {0})) {x : Stop} → expected s w o ≡ Refused x → Failed o x
+pub not_expected : (s : List ℕ) (w : Walk) (o : Out (Unit {0})) {x : Stop} → expected s w o ≡ Err x → Failed o x
 unfolding expected
 not_expected s w (refuse r e) q = record { why = r; far = e; is = refl; so = cc }
 not_expected s w (got t n) q = let z : ◌≡◌ {A = ℕ} 0 1 = cc in absurd (omega arith)
 
-pub was_expected : (s : List ℕ) (w : Walk) (o : Out (Unit {0})) {x : Walk} → expected s w o ≡ Done x → Came o (λ u n. x ≡ moved s w n)
+pub was_expected : (s : List ℕ) (w : Walk) (o : Out (Unit {0})) {x : Walk} → expected s w o ≡ Ok x → Came o (λ u n. x ≡ moved s w n)
 unfolding expected
 was_expected s w (refuse r e) q = let z : ◌≡◌ {A = ℕ} 0 1 = cc in absurd (omega arith)
 was_expected s w (got u n) q = record { what = u; next = n; is = refl; so = cc }
@@ -205,7 +213,3 @@ below_less (suc d) s l = ap (λ (k : ℕ). reader k s l) pred_eq
   where
     pred_eq : suc d - 1 ≡ d
     pred_eq = omega arith
-
--- a walk that agrees no more is kept
-pub kept : (w : Walk) (b : Bool) → w.same ≡ false → w ≡ record { cursor = w.cursor; count = w.count; same = cond w.same b false }
-kept w b e = λ i. record { cursor = w.cursor; count = w.count; same = (e ∙ sym (ap (λ (z : Bool). cond z b false) e)) i }

@@ -1,5 +1,6 @@
 -- What is left of a loop's definition, from the place where it stands; and how far a reading gets.
 -- Assumes nothing.
+use Rattle.eon_spec.specs.declared.token_kind.TokenKind.TheVariants.{CloseList, CloseBrace, CloseParen, Colon}
 use mathlib.Core.Path.{◌≡◌, refl, sym, ap, ◌∙◌}
 use mathlib.Core.List.{List, [], ◌∷◌, ◌++◌}
 use mathlib.Core.Bool.{Bool, true, false, not}
@@ -9,8 +10,10 @@ use lib.ListN.{length, length-append}
 use lib.Dec.{eqb, ltb}
 use borrow.Author.Tests.{eqb-true, eqb-false, ltb-true}
 use Rattle.eon_spec.specs.Tree.{Span}
-use Rattle.eon_spec.specs.declared.Refusal.{Refusal}
+use Rattle.eon_spec.specs.declared.refusal.Refusal.{Refusal}
 use Rattle.eon_spec.specs.Records.{leaf}
+use Rattle.eon_spec.specs.declared.token_kind.TokenKind.{TokenKind}
+use Rattle.eon_spec.specs.Token.{kind_number}
 use Rattle.eon_token.specs.Place.{Spot, kind_at, next_span, line_feed}
 use Rattle.eon_parse.specs.Walk.{Out, refuse, got, bind, Records, strings, many, loop, comment, no_comment, run, expect, suffix_end, tail_r, Item, whole, settled, stops, one, two, inside, closed, header, list_at, map_at, variant_at, leaf_at, string_at, bare_at, item_at, reader, below}
 use Rattle.eon_token.proofs.Places.{Gets, gets, kind_lt}
@@ -141,12 +144,12 @@ pub tail_size : (from : ℕ) (to : Span) → from ≤ to.end → from + length (
 unfolding tail_r
 tail_size from to h = picked (λ (f : Records). from + length f ≤ to.end) (ltb from to.end) (λ e. omega (arith, ltb-true from to.end e)) (λ e. omega arith)
 
-pub expect_far : (s : List ℕ) (k : ℕ) (p : Span) → Spot s p → Reach (λ _. 1) s p (expect s k p)
+pub expect_far : (s : List ℕ) (k : TokenKind) (p : Span) → Spot s p → Reach (λ _. 1) s p (expect s k p)
 unfolding expect
 expect_far s k p b =
     picked (Reach (λ _. 1) s p) (eqb (kind_at s p) 16) (λ e. tt)
     λ e. picked (Reach (λ _. 1) s p) (eqb (kind_at s p) 0) (λ e. tt)
-    λ _. picked (Reach (λ _. 1) s p) (eqb (kind_at s p) k)
+    λ _. picked (Reach (λ _. 1) s p) (eqb (kind_at s p) (kind_number k))
     (λ _. let g = gets s p b (kind_lt s p (eqb-false (kind_at s p) 16 e)) in (omega (arith, g.behind, g.long), g.bound))
     (λ _. tt)
 
@@ -184,7 +187,7 @@ module _ (s : List ℕ) where
       go (refuse k p) r = tt
       go (got ts p) r = let c = run_got s 9 p r.1 in let z = length-append ts c.what in rw c.is (omega (arith, r.0, c.so.0), c.so.1)
 
-  closed_far : (kind close start name : ℕ) (at l : Span) → at.end < l.end → (o : Out Records) → Reach length s l o → Far s at (closed s kind close start name o)
+  closed_far : (kind : ℕ) (close : TokenKind) (start name : ℕ) (at l : Span) → at.end < l.end → (o : Out Records) → Reach length s l o → Far s at (closed s kind close start name o)
   unfolding closed
   closed_far kind close start name at l h (refuse k p) r = tt
   closed_far kind close start name at l h (got ts p) r = go (expect s close p) (expect_far s close p r.1)
@@ -216,13 +219,13 @@ module _ (s : List ℕ) where
         colon pre n k (got u q) f = value pre q (omega (arith, f.0)) (read q) (far q f.1)
 
         key : (pre : Records) (p : Span) → at.end + length pre ≤ p.end → (o : Out Item) → FarItem s p o
-            → Far s at (bind o (λ k n. bind (expect s 8 n) (λ _ q. bind (read q) (λ v m. bind (settled s v m) (λ ts r. got ((pre ++ whole k n) ++ ts) r)))))
+            → Far s at (bind o (λ k n. bind (expect s Colon n) (λ _ q. bind (read q) (λ v m. bind (settled s v m) (λ ts r. got ((pre ++ whole k n) ++ ts) r)))))
         key pre p k (refuse j q) f = tt
         key pre p k (got i n) f =
             let z = tail_size i.from n f.2 in
             let w = length-append i.body (tail_r i.from n) in
             let v = length-append pre (i.body ++ tail_r i.from n) in
-            colon (pre ++ whole i n) n (omega (arith, f.0, f.1)) (expect s 8 n) (expect_far s 8 n f.3)
+            colon (pre ++ whole i n) n (omega (arith, f.0, f.1)) (expect s Colon n) (expect_far s Colon n f.3)
 
     pub list_reach : (at : Span) → Spot s at → Reach length s at (inside s (one s read) at)
     list_reach at h = inside_reach (one s read) one_far at h
@@ -239,7 +242,7 @@ module _ (s : List ℕ) where
     string_far at g =
         picked (Far s at) (eqb (kind_at s (next_span s at)) 6)
         (λ e. let h = gets s (next_span s at) g.bound (omega (arith, eqb-true (kind_at s (next_span s at)) 6 e)) in
-        closed_far 6 7 (next_span s at).start (next_span s at).end at (next_span s (next_span s at)) (omega (arith, g.behind, g.long, h.behind, h.long)) _ (list_reach (next_span s (next_span s at)) h.bound))
+        closed_far 6 CloseParen (next_span s at).start (next_span s at).end at (next_span s (next_span s at)) (omega (arith, g.behind, g.long, h.behind, h.long)) _ (list_reach (next_span s (next_span s at)) h.bound))
         (λ e. leaf_far 3 at g)
 
     pub bare_far : (at : Span) → Spot s at → Far s at (bare_at s read at)
@@ -248,9 +251,9 @@ module _ (s : List ℕ) where
         picked (Far s at) (eqb (kind_at s at) 10) (λ e. leaf_far 1 at (on 10 (omega arith) e))
         λ _. picked (Far s at) (eqb (kind_at s at) 11) (λ e. leaf_far 2 at (on 11 (omega arith) e))
         λ _. picked (Far s at) (eqb (kind_at s at) 2)
-        (λ e. let g = on 2 (omega arith) e in closed_far 4 3 _ 0 at (next_span s at) (omega (arith, g.behind, g.long)) _ (list_reach (next_span s at) g.bound))
+        (λ e. let g = on 2 (omega arith) e in closed_far 4 CloseList _ 0 at (next_span s at) (omega (arith, g.behind, g.long)) _ (list_reach (next_span s at) g.bound))
         λ _. picked (Far s at) (eqb (kind_at s at) 4)
-        (λ e. let g = on 4 (omega arith) e in closed_far 5 5 _ 0 at (next_span s at) (omega (arith, g.behind, g.long)) _ (map_reach (next_span s at) g.bound))
+        (λ e. let g = on 4 (omega arith) e in closed_far 5 CloseBrace _ 0 at (next_span s at) (omega (arith, g.behind, g.long)) _ (map_reach (next_span s at) g.bound))
         λ _. picked (Far s at) (strings (kind_at s at)) (λ e. string_far at (gets s at h (strings_lt (kind_at s at) e)))
         λ _. picked (Far s at) (eqb (kind_at s at) 16) (λ e. tt) (λ e. tt)
       where

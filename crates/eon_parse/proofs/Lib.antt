@@ -1,13 +1,11 @@
-pub mod Laws
-pub mod Left
-pub mod Store
-pub mod Sink
-pub mod Pass
-pub mod Count
-pub mod Fill
-pub mod Steps
-pub mod Same
-pub mod Whole
-pub mod Tops
+mod Laws
+mod Left
+mod Store
+mod Page
+mod Pass
+mod Steps
+mod Same
+mod Whole
+mod Readings
+mod Tops
 pub mod Calls
-pub mod OneWalk

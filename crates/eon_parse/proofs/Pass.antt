@@ -1,5 +1,7 @@
 -- Either pass: its loops' invariant, and what a start, a turn, a stop and an end make of it.
 -- Assumes nothing.
+use Rattle.eon_spec.specs.declared.refusal.Reason.TheVariants.{MissingValue}
+use Rattle.eon_spec.specs.declared.token_kind.TokenKind.TheVariants.{Colon}
 use mathlib.Core.Path.{◌≡◌, refl, sym, ap, ◌∙◌, subst}
 use mathlib.Core.List.{List, [], ◌∷◌, ◌++◌}
 use mathlib.Core.Bool.{Bool, true, false, cond}
@@ -9,47 +11,39 @@ use lib.ListN.{length, length-append}
 use lib.Dec.{eqb}
 use borrow.Author.Tests.{eq-eqb, ne_eqb}
 use Rattle.eon_spec.specs.Tree.{Span}
-use Rattle.eon_spec.specs.declared.Refusal.{Refusal}
-use Rattle.eon_spec.specs.Parse.{refusal}
+use Rattle.eon_spec.specs.declared.refusal.Refusal.{Refusal}
 use Rattle.eon_spec.specs.Records.{Record, record_at, leaf}
-use Rattle.eon_token.specs.Placed.{placed_at}
+use Rattle.std.specs.Prelude.{IsSome}
+use Rattle.eon_token.specs.Placed.{placed_at, code_of}
 use Rattle.eon_token.specs.Place.{Spot, Standing, place_of, cursor_at, kind_at, next_span, span}
-use Rattle.eon_parse.specs.Walk.{Out, refuse, got, Records, strings, loop, run, expect, suffix_end, tail_r, Item, whole, settled, stops, one, two, inside, header, list_at, map_at, variant_at, leaf_at, string_at, bare_at, item_at, number_of}
+use Rattle.eon_parse.specs.Walk.{Out, refuse, got, Records, strings, loop, run, expect, suffix_end, tail_r, Item, whole, settled, stops, one, two, inside, header, list_at, map_at, variant_at, leaf_at, string_at, bare_at, item_at, reason_of, refused_at}
 use Rattle.eon_parse.specs.Answer.{Ready}
 use Rattle.eon_token.specs.declared.cursor.Cursor.{Cursor}
-use Rattle.eon_parse.proofs.Sink.{Sink}
+use Rattle.eon_parse.specs.Answer.{moved as moved_w, entered as entered_w, begun}
+use Rattle.eon_parse.specs.declared.walk.Begun.{Begun}
+use Rattle.eon_spec.specs.RecordKind.{word_of}
+use Rattle.eon_spec.specs.declared.record_kind.RecordKind.{RecordKind}
+use Rattle.eon_parse.proofs.Page.{Page, page, both, emit_p, seal_p, none_p, again_p, finish_p}
 use Rattle.eon_token.proofs.Places.{Gets, peeks as peeked, peeks_kind as peeked-kind, peeks_gets as peeked-gets}
-use Rattle.eon_parse.proofs.Laws.{Came}
+use Rattle.eon_parse.proofs.Laws.{Came, emit_cursor, emit_count, emit_moved as moved_emit}
 use Rattle.eon_parse.proofs.Left.{Left, Far, FarItem, left_start, left_end, left_turn, left_stop, run_got, tail_size, expect_far, settled_far}
 
 -- ---- a value, by its token
 
 module _ (s : List ℕ) (read : Span → Out Item) (at : Span) where
-  pub bare_identifier : kind_at s at ≡ 10 → bare_at s read at ≡ leaf_at s 1 at
+  abbrev pub bare_by : ℕ → Out Records
+  bare_by k =
+      cond (eqb k 10) (leaf_at s 1 at)
+      (cond (eqb k 11) (leaf_at s 2 at)
+      (cond (eqb k 2) (list_at s read at)
+      (cond (eqb k 4) (map_at s read at)
+      (cond (strings k) (string_at s read at)
+      (cond (eqb k 16) (refuse (refused_at MissingValue (span (length s) (length s))) at.end)
+      (refuse (refused_at (reason_of k) (next_span s at)) (next_span s at).end))))))
+
+  pub bare_is : (k : ℕ) → kind_at s at ≡ k → bare_at s read at ≡ bare_by k
   unfolding bare_at
-  bare_identifier e = simp e
-
-  pub bare_number : kind_at s at ≡ 11 → bare_at s read at ≡ leaf_at s 2 at
-  unfolding bare_at
-  bare_number e = simp e
-
-  pub bare_list : kind_at s at ≡ 2 → bare_at s read at ≡ list_at s read at
-  unfolding bare_at
-  bare_list e = simp e
-
-  pub bare_map : kind_at s at ≡ 4 → bare_at s read at ≡ map_at s read at
-  unfolding bare_at
-  bare_map e = simp e
-
-  module _ (a : kind_at s at ≡ 10 → ⊥) (b : kind_at s at ≡ 11 → ⊥) (c : kind_at s at ≡ 2 → ⊥) (d : kind_at s at ≡ 4 → ⊥) where
-    pub bare_string : strings (kind_at s at) ≡ true → bare_at s read at ≡ string_at s read at
-    unfolding bare_at
-    bare_string e = simp (ne_eqb _ _ a, ne_eqb _ _ b, ne_eqb _ _ c, ne_eqb _ _ d, e)
-
-    pub bare_none : strings (kind_at s at) ≡ false
-        → bare_at s read at ≡ cond (eqb (kind_at s at) 16) (refuse (refusal 5 (span (length s) (length s))) at.end) (refuse (refusal (number_of (kind_at s at)) (next_span s at)) (next_span s at).end)
-    unfolding bare_at
-    bare_none e = simp (ne_eqb _ _ a, ne_eqb _ _ b, ne_eqb _ _ c, ne_eqb _ _ d, e)
+  bare_is k e = ap bare_by e
 
 module _ (s : List ℕ) (read : Span → Out Item) (at : Span) where
   pub string_variant : kind_at s (next_span s at) ≡ 6 → string_at s read at ≡ variant_at s read at
@@ -60,8 +54,8 @@ module _ (s : List ℕ) (read : Span → Out Item) (at : Span) where
   unfolding string_at
   string_leaf e = rw (ne_eqb _ _ e)
 
-header_leaf : (kind : ℕ) (l : Span) → (kind ≡ 6 → ⊥) → header kind l.start 0 l.end [] ≡ leaf kind l
-header_leaf kind l ne = ap (λ (b : Bool). record_at kind l (cond b 0 l.end) 1) (ne_eqb kind 6 ne)
+header_leaf : (kind : ℕ) (l : Span) → eqb kind 6 ≡ false → header kind l.start 0 l.end [] ≡ leaf kind l
+header_leaf kind l ne = ap (λ (b : Bool). record_at kind l (cond b 0 l.end) 1) ne
 
 -- a cursor that stands where it says
 pub ready_at : (s : List ℕ) (c : Cursor) (n m : ℕ) (x : Cursor) (l : Span) → Ready s c n → x ≡ cursor_at s l → Spot s l → m ≤ l.end + 1 → Ready s x m
@@ -79,14 +73,52 @@ standing h = record { bound = h.bound; fresh = h.fresh }
 pub peeks : (s : List ℕ) (c : Cursor) (n : ℕ) → Ready s c n → c.peeked ≡ placed_at s c.end
 peeks s c n h = peeked s c (standing h)
 
-pub peeks_kind : (s : List ℕ) (c : Cursor) (n : ℕ) → Ready s c n → c.peeked.kind ≡ kind_at s (place_of c)
+pub peeks_kind : (s : List ℕ) (c : Cursor) (n : ℕ) → Ready s c n → code_of c.peeked.kind ≡ kind_at s (place_of c)
 peeks_kind s c n h = peeked-kind s c (standing h)
 
-pub peeks_gets : (s : List ℕ) (c : Cursor) (n : ℕ) → Ready s c n → c.peeked.kind < 16 → Gets s (place_of c)
+pub peeks_gets : (s : List ℕ) (c : Cursor) (n : ℕ) → Ready s c n → IsSome c.peeked.kind → Gets s (place_of c)
 peeks_gets s c n h = peeked-gets s c (standing h)
 
-module _ (s : List ℕ) (K : Sink s) where
-  open K use {S, cur, num, emit, moved, entered, seal, emit_cur, emit_num, moved_cur, moved_num, entered_cur, entered_num, emit_none, emit_emit, emit_moved, finish}
+module _ (s old : List ℕ) where
+  abbrev S : Type 0
+  S = Page
+
+  abbrev cur : S → Cursor
+  cur σ = σ.cur.cursor
+
+  abbrev num : S → ℕ
+  num σ = σ.cur.count
+
+  abbrev emit : S → Records → Span → S
+  emit σ f n = emit_p s old σ f n
+
+  abbrev moved : S → Span → S
+  moved σ n = page (moved_w s σ.cur n) σ.tab
+
+  abbrev entered : S → Span → S
+  entered σ n = page (entered_w s σ.cur n) σ.tab
+
+  abbrev seal : S → Begun → S
+  seal σ b = seal_p s old σ b
+
+  emit_cur : (σ : S) (f : Records) (n : Span) → cur (emit σ f n) ≡ cursor_at s n
+  emit_cur σ f n = emit_cursor s old σ.cur f n
+
+  emit_num : (σ : S) (f : Records) (n : Span) → num (emit σ f n) ≡ num σ + length f
+  emit_num σ f n = emit_count s old σ.cur f n
+
+  emit_none : (σ : S) → cur σ ≡ cursor_at s (place_of (cur σ)) → σ ≡ emit σ [] (place_of (cur σ))
+  emit_none σ e = none_p s old σ e
+
+  emit_emit : (σ : S) (f : Records) (p : Span) (g : Records) (n : Span) → emit (emit σ f p) g n ≡ emit σ (f ++ g) n
+  emit_emit σ f p g n = again_p s old σ f p g n
+
+  emit_moved : (σ : S) (f : Records) (p n : Span) → moved (emit σ f p) n ≡ emit σ f n
+  emit_moved σ f p n = both (moved_emit s old σ.cur f p n) refl
+
+  finish : (σ : S) (l : Span) (f : Records) (q p : Span) (k : RecordKind) (start name : ℕ)
+      → seal (moved (emit (entered σ l) f q) p) (begun k (num σ) start name) ≡ emit σ (header (word_of k) start name p.end f ∷ f) p
+  finish σ l f q p k start name = finish_p s old σ l f q p k start name
 
   abbrev pub pos : S → Span
   pos σ = place_of (cur σ)
@@ -109,11 +141,11 @@ module _ (s : List ℕ) (K : Sink s) where
 
   pub moved_ready : (c : S) (n : Span) (x : S) → x ≡ moved c n → Stands c → ((pos c).end ≤ n.end) → Spot s n → Stands x
   moved_ready c n x e h k l =
-      ready_at s (cur c) (num c) (num x) (cur x) n h (ap cur e ∙ moved_cur c n) l (omega (arith, ap num e ∙ moved_num c n, h.few))
+      ready_at s (cur c) (num c) (num x) (cur x) n h (ap cur e) l (omega (arith, ap num e, h.few))
 
   pub entered_ready : (c : S) (n : Span) (x : S) → x ≡ entered c n → Stands c → ((pos c).end < n.end) → Spot s n → Stands x
   entered_ready c n x e h k l =
-      ready_at s (cur c) (num c) (num x) (cur x) n h (ap cur e ∙ entered_cur c n) l (omega (arith, ap num e ∙ entered_num c n, h.few))
+      ready_at s (cur c) (num c) (num x) (cur x) n h (ap cur e) l (omega (arith, ap num e, h.few))
 
   module _ (stop : Span → Bool) (step : Span → Out Records) (d₀ : S) (ready : Stands d₀) where
     pub inv_start : Inv stop step d₀ d₀
@@ -250,19 +282,19 @@ module _ (s : List ℕ) (K : Sink s) where
         pub key_ready : Stands y
         key_ready = emit_ready e (whole v.what v.next) v.next y key_is pre_ready key_size v_far.3
 
-        pub colon_stop : {k : Refusal} {p : ℕ} → expect s 8 (pos y) ≡ refuse k p → two s read (pos d) ≡ refuse k p
+        pub colon_stop : {k : Refusal} {p : ℕ} → expect s Colon (pos y) ≡ refuse k p → two s read (pos d) ≡ refuse k p
         unfolding two
-        colon_stop r = rw pre.is (rw (sym (ap read pre.so.1) ∙ v.is) (rw (sym (ap (expect s 8) key_at_lem) ∙ r)))
+        colon_stop r = rw pre.is (rw (sym (ap read pre.so.1) ∙ v.is) (rw (sym (ap (expect s Colon) key_at_lem) ∙ r)))
 
-        module _ (z : S) (c : Came (expect s 8 (pos y)) (λ u n. z ≡ moved y n)) where
+        module _ (z : S) (c : Came (expect s Colon (pos y)) (λ u n. z ≡ moved y n)) where
           z_at : pos z ≡ c.next
-          z_at = ap pos c.so ∙ ap place_of (moved_cur y c.next)
+          z_at = ap pos c.so
 
           z_is : z ≡ emit e (whole v.what v.next) c.next
           z_is = c.so ∙ ap (λ (u : S). moved u c.next) key_is ∙ emit_moved e (whole v.what v.next) v.next c.next
 
           z_far : ((pos y).end + 1 ≤ c.next.end) × Spot s c.next
-          z_far = rw c.is at (expect_far s 8 (pos y) key_ready.bound)
+          z_far = rw c.is at (expect_far s Colon (pos y) key_ready.bound)
 
           pub colon_ready : Stands z
           colon_ready =
@@ -270,7 +302,7 @@ module _ (s : List ℕ) (K : Sink s) where
 
           pub value_stop : {k : Refusal} {p : ℕ} → read (pos z) ≡ refuse k p → two s read (pos d) ≡ refuse k p
           unfolding two
-          value_stop r = rw pre.is (rw (sym (ap read pre.so.1) ∙ v.is) (rw (sym (ap (expect s 8) key_at_lem) ∙ c.is) (rw (sym (ap read z_at) ∙ r))))
+          value_stop r = rw pre.is (rw (sym (ap read pre.so.1) ∙ v.is) (rw (sym (ap (expect s Colon) key_at_lem) ∙ c.is) (rw (sym (ap read z_at) ∙ r))))
 
           module _ (w : S) (since : ℕ) (u : Valued read z w since) where
             u_far : FarItem s (pos z) (got u.what u.next)
@@ -290,7 +322,7 @@ module _ (s : List ℕ) (K : Sink s) where
                 record {
                   what = (pre.what ++ k) ++ f.what;
                   next = f.next;
-                  is = rw pre.is (rw (sym (ap read pre.so.1) ∙ v.is) (rw (sym (ap (expect s 8) key_at_lem) ∙ c.is) (rw (sym (ap read z_at) ∙ u.is) (rw f.is))));
+                  is = rw pre.is (rw (sym (ap read pre.so.1) ∙ v.is) (rw (sym (ap (expect s Colon) key_at_lem) ∙ c.is) (rw (sym (ap read z_at) ∙ u.is) (rw f.is))));
                   so = (
                     f.so.0
                         ∙ ap (λ (m : S). emit m f.what f.next) (z_is ∙ ap (λ (m : S). emit m k c.next) pre.so.0 ∙ emit_emit d pre.what pre.next k c.next)
@@ -320,25 +352,16 @@ module _ (s : List ℕ) (K : Sink s) where
     }
 
   -- a record with nothing inside
-  pub single : (c : S) (l : Span) (kind start name : ℕ) → seal (entered c l) (num c) kind start name ≡ emit c (header kind start name l.end [] ∷ []) l
-  single c l kind start name =
-      ap (λ (y : S). seal y (num c) kind start name) (here ∙ sym (emit_moved (entered c l) [] l l)) ∙ finish c l [] l l kind start name
+  pub single : (c : S) (l : Span) (k : RecordKind) (start name : ℕ) → seal (entered c l) (begun k (num c) start name) ≡ emit c (header (word_of k) start name l.end [] ∷ []) l
+  single c l k start name =
+      ap (λ (y : S). seal y (begun k (num c) start name)) (here ∙ sym (emit_moved (entered c l) [] l l)) ∙ finish c l [] l l k start name
     where
-      at_l : cur (entered c l) ≡ cursor_at s l
-      at_l = entered_cur c l
-
       here : entered c l ≡ emit (entered c l) [] l
-      here = emit_none (entered c l) (at_l ∙ ap (λ (y : Cursor). cursor_at s (place_of y)) (sym at_l)) ∙ ap (emit (entered c l) []) (ap place_of at_l)
+      here = emit_none (entered c l) refl
 
   -- a record with nothing inside, as a token's
-  pub sealed_leaf : (c : S) (l : Span) (kind : ℕ) → (kind ≡ 6 → ⊥) → (y : S) → y ≡ entered c l → (start : ℕ) → start ≡ l.start → (x : S) → x ≡ seal y (num c) kind start 0
-      → x ≡ emit c (leaf kind l ∷ []) l
-  sealed_leaf c l kind ne y e start f x q =
-      q
-      ∙ ap (λ (z : S). seal z (num c) kind start 0) e
-      ∙ ap (λ (n : ℕ). seal (entered c l) (num c) kind n 0) f
-      ∙ single c l kind l.start 0
-      ∙ ap (λ (r : Record). emit c (r ∷ []) l) (header_leaf kind l ne)
+  pub sealed_leaf : (c : S) (l : Span) (k : RecordKind) → eqb (word_of k) 6 ≡ false → (x : S) → x ≡ seal (entered c l) (begun k (num c) l.start 0) → x ≡ emit c (leaf (word_of k) l ∷ []) l
+  sealed_leaf c l k ne x q = q ∙ single c l k l.start 0 ∙ ap (λ (r : Record). emit c (r ∷ []) l) (header_leaf (word_of k) l ne)
 
   -- a value's comments, then the value
   module _ (read : Span → Out Item) (c e : S) (pre : Ran 7 c e) where

@@ -1,9 +1,10 @@
+use Rattle.eon_spec.specs.declared.refusal.Reason.TheVariants.{MissingValue}
+use Rattle.std.specs.Prelude.{Option, None, Some}
 -- Reading by places is reading by the list of tokens: the walk gives the records of the trees that `Parse` gives, and refuses as it does.
 -- Assumes nothing.
 use mathlib.Core.Path.{◌≡◌, refl, sym, ap, ◌∙◌}
 use mathlib.Core.Bool.{Bool, true, false, cond}
 use mathlib.Core.List.{List, [], ◌∷◌, ◌++◌, append_assoc, append-nil}
-use mathlib.Core.Option.{Option, none, some}
 use Prim.Native.Nat.{ℕ, zero, suc, ◌+◌, ◌≤◌, ◌<◌}
 use native.Mathlib.Omega.{arith}
 use native.Mathlib.Nat.{not-suc-le-zero}
@@ -11,17 +12,23 @@ use lib.ListN.{length}
 use lib.Dec.{eqb}
 use borrow.Author.Tests.{ne_eqb, eqb-true, eqb-false, lt-ltb, le-ltb}
 use Rattle.eon_spec.specs.Base.{elem}
-use Rattle.eon_spec.specs.Token.{Token, TokenKind, Invalid, Comment, OpenList, CloseList, OpenBrace, CloseBrace, OpenParen, CloseParen, Colon, Comma, Identifier, Number, DoubleQuotedString, SingleQuotedString, MultilineBasicString, MultilineLiteralString, kind_number, is_kind}
+use Rattle.eon_spec.specs.declared.token_kind.TokenKind.{TokenKind}
+use Rattle.eon_spec.specs.declared.token_kind.TokenKind.TheVariants.{Invalid, Comment, OpenList, CloseList, OpenBrace, CloseBrace, OpenParen, CloseParen, Colon, Comma, Identifier, Number, DoubleQuotedString, SingleQuotedString, MultilineBasicString, MultilineLiteralString}
+use Rattle.eon_spec.specs.Token.{Token, kind_number, is_kind}
 use Rattle.eon_spec.specs.Tree.{Span, Slice, TokenTree, TokenValue, TokenTrees, KeyValues, tree, identifier, number, quoted_string, list_of, map_of, variant_of, no_trees, ◌∷ᵗ◌, no_pairs, pair}
-use Rattle.eon_spec.specs.declared.Refusal.{Refusal}
-use Rattle.eon_spec.specs.Parse.{refusal, Cursor, behind, last, rest, span_of, slice_of, Read, read, refused, bind as bindP, refuse_at, parse_comments, comments_at, suffix_comment, consume_token, next_is, at_end, skip, with_prefix, with_suffix, after_comma, TokenList, TokenMap, Reader, list_contents, map_contents, list_inside, map_inside, string_or_variant, value_of, tree_behind, tree_with, value_at, inside_at}
+use Rattle.eon_spec.specs.declared.refusal.Refusal.{Refusal}
+use Rattle.eon_spec.specs.Refused.{refusal_of, number_of}
+use Rattle.eon_spec.specs.Refused as paper
+use Rattle.eon_spec.specs.declared.refusal.Reason.{Reason}
+use Rattle.eon_spec.specs.declared.refusal.Reason.TheVariants.{Stray, TooDeep, UnbalancedList, UnbalancedBrace, UnbalancedParen, Nameless, NoValue, Mismatch, CutOff}
+use Rattle.eon_spec.specs.Parse.{refusal, mismatch, Cursor, behind, last, rest, span_of, slice_of, Read, read, refused, bind as bindP, refuse_at, parse_comments, comments_at, suffix_comment, consume_token, next_is, at_end, skip, with_prefix, with_suffix, after_comma, TokenList, TokenMap, Reader, list_contents, map_contents, list_inside, map_inside, string_or_variant, value_of, tree_behind, tree_with, value_at, inside_at}
 use Rattle.eon_laws.proofs.Parse.{Progresses, comments_at_le, comma_le, consume_good, inside_at_good}
 use Rattle.eon_spec.specs.Records.{leaf, comments, suffix, tree_records, value_records, trees_records, pairs_records}
-use Rattle.eon_token.specs.Placed.{tokens_at}
+use Rattle.eon_token.specs.Placed.{tokens_at, kind_of}
 use Rattle.eon_token.specs.Place.{Spot, span, cursor_behind, kind_at, next_span, line_feed}
-use Rattle.eon_parse.specs.Walk.{Out, refuse, got, bind, Records, closes, strings, number_of, many, loop, comment, no_comment, run, end_of, wrong, expect, suffix_end, tail_r, Item, whole, settled, stops, one, two, inside, closed, header, list_at, map_at, variant_at, leaf_at, string_at, bare_at, item_at, reader, below}
+use Rattle.eon_parse.specs.Walk.{Out, refuse, got, bind, Records, closes, strings, reason_of, many, loop, comment, no_comment, run, end_of, expect, suffix_end, tail_r, Item, whole, settled, stops, one, two, inside, closed, header, list_at, map_at, variant_at, leaf_at, string_at, bare_at, item_at, reader, below, refused_at}
 use Rattle.eon_token.proofs.Places.{Gets, gets, Seen, over, comes, see}
-use Rattle.eon_token.proofs.Laws.{kind_small}
+use Rattle.eon_token.proofs.KindCodes.{kind_small, kind_of_lem}
 use Rattle.eon_parse.proofs.Left.{FarItem, suffix_far, expect_far, below_far}
 use Rattle.eon_parse.proofs.Pass.{string_variant, string_leaf}
 use Rattle.eon_parse.proofs.Steps.{is_comment, is_none}
@@ -43,7 +50,7 @@ module _ (s : List ℕ) where
 
   pub data Same {A B : Type 0} (P : A → B → Span → Type 0) (r : Read A) (o : Out B) : Type 0 where
     fine : (a : A) (b : B) (n : Span) → r ≡ read a (C n) → o ≡ got b n → Spot s n → P a b n → Same P r o
-    fails : (q : Refusal) (e : ℕ) → r ≡ refused q e → o ≡ refuse q e → Same P r o
+    fails : (q : Refusal) (e : ℕ) → r ≡ refused (refusal_of q) e → o ≡ refuse q e → Same P r o
 
   -- along equations
   pub along : {A B : Type 0} {P : A → B → Span → Type 0} {r r' : Read A} {o o' : Out B} → r ≡ r' → o ≡ o' → Same P r' o' → Same P r o
@@ -69,6 +76,7 @@ module _ (s : List ℕ) where
     pub runs : (kind : ℕ) → run s kind l ≡ got (comments kind found) to
     pub spot : Spot s to
     pub on : l.end ≤ to.end
+    pub past : kind_at s to ≡ 1 → ⊥
 
   record Many (f : ℕ) (l : Span) : Type 0 where
     found : List Slice
@@ -77,6 +85,7 @@ module _ (s : List ℕ) where
     runs : (kind : ℕ) (done : Records) → many (no_comment s) (comment s kind) f l done ≡ got (done ++ comments kind found) to
     spot : Spot s to
     on : l.end ≤ to.end
+    past : kind_at s to ≡ 1 → ⊥
 
   many_same : (f : ℕ) (l : Span) → length s < l.end + f → Spot s l → Many f l
   unfolding many comment parse_comments
@@ -97,6 +106,7 @@ module _ (s : List ℕ) where
             ∙ ap (λ (x : Records). got x m.to) (append_assoc done (leaf kind (next_span s l) ∷ []) (comments kind m.found) ∙ ap (λ (sp : Span). done ++ (leaf kind sp ∷ comments kind m.found)) (sym p));
         spot = m.spot;
         on = omega (arith, g.behind, g.long, m.on);
+        past = m.past;
       }
 
       go : Seen s l → ((n : Span) → length s < n.end + f → Spot s n → Many f n) → Many (suc f) l
@@ -107,6 +117,7 @@ module _ (s : List ℕ) where
         runs = λ kind done. stop kind done (is_none s l (λ z. omega arith));
         spot = b;
         on = omega arith;
+        past = λ z. omega arith;
       }
       go (comes t e p k n g) rec = by (is_kind t.kind Comment) refl
         where
@@ -119,13 +130,14 @@ module _ (s : List ℕ) where
             runs = λ kind done. stop kind done (is_none s l (λ z. eqb-false (kind_number t.kind) 1 i (k ∙ z)));
             spot = b;
             on = omega arith;
+            past = λ z. eqb-false (kind_number t.kind) 1 i (k ∙ z);
           }
 
   pub comments_same : (l : Span) → Spot s l → Ran l
   unfolding run loop
   comments_same l b =
       let m = many_same (suc (length s)) l (omega arith) b in
-      record { found = m.found; to = m.to; parsed = m.parsed; runs = λ kind. m.runs kind []; spot = m.spot; on = m.on }
+      record { found = m.found; to = m.to; parsed = m.parsed; runs = λ kind. m.runs kind []; spot = m.spot; on = m.on; past = m.past }
 
   -- ---- a suffix comment
 
@@ -142,10 +154,10 @@ module _ (s : List ℕ) where
   unfolding tail_r
   tail_one m n h = ap (λ (b : Bool). cond b (leaf 8 n ∷ []) []) (lt-ltb m.end n.end h)
 
-  stays : (n : Span) → suffix_end s n ≡ n → suffix_comment (C n) ≡ (none, C n) → Tail n
+  stays : (n : Span) → suffix_end s n ≡ n → suffix_comment (C n) ≡ (None, C n) → Tail n
   stays n e p = record {
-    found = none;
-    parsed = p ∙ ap (λ (l : Span). (none, C l)) (sym e);
+    found = None;
+    parsed = p ∙ ap (λ (l : Span). (None, C l)) (sym e);
     is = sym (ap (tail_r n.end) e ∙ tail_empty n);
   }
 
@@ -155,7 +167,7 @@ module _ (s : List ℕ) where
     where
       go : Seen s n → Tail n
       go (over k e) = stays n (ap (λ (x : Bool). cond x (cond (line_feed s n.end (next_span s n).start) n (next_span s n)) n) (ne_eqb (kind_at s n) 1 (λ z. omega arith)))
-          (ap (λ (ts : List Token). suffix_comment (behind n ts)) e ∙ ap (λ (ts : List Token). (none, behind n ts)) (sym e))
+          (ap (λ (ts : List Token). suffix_comment (behind n ts)) e ∙ ap (λ (ts : List Token). (None, behind n ts)) (sym e))
       go (comes t e p k f g) = by (is_kind t.kind Comment) refl t.new_line refl
         where
           at_list : suffix_comment (C n) ≡ suffix_comment (behind n (t ∷ tokens_at s (next_span s n).end false))
@@ -163,15 +175,15 @@ module _ (s : List ℕ) where
 
           by : (x : Bool) → is_kind t.kind Comment ≡ x → (y : Bool) → t.new_line ≡ y → Tail n
           by false i y j = stays n (ap (λ (x : Bool). cond x (cond (line_feed s n.end (next_span s n).start) n (next_span s n)) n) (sym (ap (λ (x : ℕ). eqb x 1) k) ∙ i))
-              (at_list ∙ rw (i, suffix_comment) (ap (λ (ts : List Token). (none, behind n ts)) (sym e)))
+              (at_list ∙ rw (i, suffix_comment) (ap (λ (ts : List Token). (None, behind n ts)) (sym e)))
           by true i true j = stays n
               (ap (λ (x : Bool). cond x (cond (line_feed s n.end (next_span s n).start) n (next_span s n)) n) (sym (ap (λ (x : ℕ). eqb x 1) k) ∙ i) ∙ ap (λ (x : Bool). cond x n (next_span s n)) (sym f ∙ j))
-              (at_list ∙ rw (i, j, suffix_comment) (ap (λ (ts : List Token). (none, behind n ts)) (sym e)))
+              (at_list ∙ rw (i, j, suffix_comment) (ap (λ (ts : List Token). (None, behind n ts)) (sym e)))
           by true i false j =
               let q : suffix_end s n ≡ next_span s n = ap (λ (x : Bool). cond x (cond (line_feed s n.end (next_span s n).start) n (next_span s n)) n) (sym (ap (λ (x : ℕ). eqb x 1) k) ∙ i) ∙ ap (λ (x : Bool). cond x n (next_span s n)) (sym f ∙ j) in
               record {
-                found = some (slice_of t);
-                parsed = at_list ∙ rw (i, j, suffix_comment) (ap (λ (sp : Span). (some (slice_of t), behind sp (tokens_at s (next_span s n).end false))) p ∙ ap (λ (l : Span). (some (slice_of t), C l)) (sym q));
+                found = Some (slice_of t);
+                parsed = at_list ∙ rw (i, j, suffix_comment) (ap (λ (sp : Span). (Some (slice_of t), behind sp (tokens_at s (next_span s n).end false))) p ∙ ap (λ (l : Span). (Some (slice_of t), C l)) (sym q));
                 is = ap (λ (sp : Span). leaf 8 sp ∷ []) p ∙ sym (ap (tail_r n.end) q ∙ tail_one n (next_span s n) (omega (arith, g.behind, g.long)));
               }
 
@@ -180,36 +192,36 @@ module _ (s : List ℕ) where
   abbrev pub Both : Unit {0} → Unit {0} → Span → Type 0
   Both a b n = Unit {0}
 
-  pub consume_same : (k : TokenKind) (l : Span) → Spot s l → Same Both (consume_token k (C l)) (expect s (kind_number k) l)
+  pub consume_same : (k : TokenKind) (l : Span) → Spot s l → Same Both (consume_token k (C l)) (expect s k l)
   unfolding consume_token expect
   consume_same k l b = go (see s l b)
     where
       E : ℕ → Out (Unit {0})
       E x =
-          cond (eqb x 16) (refuse (wrong 12 l (kind_number k) 0) l.end)
-          (cond (eqb x 0) (refuse (refusal 3 (next_span s l)) (next_span s l).end)
-          (cond (eqb x (kind_number k)) (got tt (next_span s l)) (refuse (wrong 11 (next_span s l) (kind_number k) x) (next_span s l).end)))
+          cond (eqb x 16) (refuse (refused_at (CutOff k) l) l.end)
+          (cond (eqb x 0) (refuse (refused_at Stray (next_span s l)) (next_span s l).end)
+          (cond (eqb x (kind_number k)) (got tt (next_span s l)) (refuse (refused_at (Mismatch k (kind_of x)) (next_span s l)) (next_span s l).end)))
 
-      go : Seen s l → Same Both (consume_token k (C l)) (expect s (kind_number k) l)
-      go (over z e) = fails (wrong 12 l (kind_number k) 0) l.end (ap (λ (ts : List Token). consume_token k (behind l ts)) e) (ap E z)
+      go : Seen s l → Same Both (consume_token k (C l)) (expect s k l)
+      go (over z e) = fails (refused_at (CutOff k) l) l.end (ap (λ (ts : List Token). consume_token k (behind l ts)) e) (ap E z)
       go (comes t e p z f g) = by (is_kind t.kind Invalid) refl (is_kind t.kind k) refl
         where
           at_list : consume_token k (C l) ≡ consume_token k (behind l (t ∷ tokens_at s (next_span s l).end false))
           at_list = ap (λ (ts : List Token). consume_token k (behind l ts)) e
 
-          at_kind : expect s (kind_number k) l ≡ E (kind_number t.kind)
+          at_kind : expect s k l ≡ E (kind_number t.kind)
           at_kind = ap E (sym z)
 
           no_end : eqb (kind_number t.kind) 16 ≡ false
           no_end = ne_eqb (kind_number t.kind) 16 (λ x. omega (arith, kind_small t.kind))
 
-          by : (x : Bool) → is_kind t.kind Invalid ≡ x → (y : Bool) → is_kind t.kind k ≡ y → Same Both (consume_token k (C l)) (expect s (kind_number k) l)
-          by true i y j = fails (refusal 3 (next_span s l)) (next_span s l).end
+          by : (x : Bool) → is_kind t.kind Invalid ≡ x → (y : Bool) → is_kind t.kind k ≡ y → Same Both (consume_token k (C l)) (expect s k l)
+          by true i y j = fails (refused_at Stray (next_span s l)) (next_span s l).end
               (at_list ∙ rw (i, consume_token) (ap (λ (sp : Span). refused (refusal 3 sp) sp.end) p)) (at_kind ∙ rw (no_end, i))
           by false i true j = fine tt tt (next_span s l)
               (at_list ∙ rw (i, j, consume_token) (ap (λ (sp : Span). read tt (behind sp (tokens_at s (next_span s l).end false))) p)) (at_kind ∙ rw (no_end, i, j)) g.bound tt
-          by false i false j = fails (wrong 11 (next_span s l) (kind_number k) (kind_number t.kind)) (next_span s l).end
-              (at_list ∙ rw (i, j, consume_token) (ap (λ (sp : Span). refused (wrong 11 sp (kind_number k) (kind_number t.kind)) sp.end) p)) (at_kind ∙ rw (no_end, i, j))
+          by false i false j = fails (refused_at (Mismatch k t.kind) (next_span s l)) (next_span s l).end
+              (at_list ∙ rw (i, j, consume_token) (ap (λ (sp : Span). refused (mismatch 11 sp k (kind_number t.kind)) sp.end) p)) (at_kind ∙ rw (no_end, i, j) (ap (λ (x : TokenKind). refuse (refused_at (Mismatch k x) (next_span s l)) (next_span s l).end) (kind_of_lem t.kind)))
 
   -- ---- where an inside ends; a token of a kind comes next
 
@@ -494,7 +506,7 @@ module _ (s : List ℕ) where
     value_m g before own _ q = bind (by q) (last_m g before own)
 
     abbrev key_m : ℕ → Records → List Slice → Item → Span → Out Records
-    key_m g before cs k n = bind (expect s 8 n) (value_m g before (comments 7 cs ++ whole k n))
+    key_m g before cs k n = bind (expect s Colon n) (value_m g before (comments 7 cs ++ whole k n))
 
     map_turn : (g : ℕ) (l : Span) (before : Records) (r : Ran l) → closes (kind_at s r.to) ≡ false
         → bind (many (stops s) (two s by) (suc g) l before) closing_k ≡ bind (by r.to) (key_m g before r.found)
@@ -503,7 +515,7 @@ module _ (s : List ℕ) where
         many_turn (two s by) g l before r e
         ∙ ap (λ (o : Out Records). bind (bind (bind o (λ pre p. bind (by p) (K1 pre))) (go_on g before)) closing_k) (r.runs 7)
         ∙ push (by r.to) (K1 (comments 7 r.found))
-        ∙ cong (by r.to) (λ i n. push (expect s 8 n) (K2 (comments 7 r.found) i n) ∙ cong (expect s 8 n) (λ u q. push (by q) (K3 (comments 7 r.found) i n)))
+        ∙ cong (by r.to) (λ i n. push (expect s Colon n) (K2 (comments 7 r.found) i n) ∙ cong (expect s Colon n) (λ u q. push (by q) (K3 (comments 7 r.found) i n)))
       where
         K3 : Records → Item → Span → Item → Span → Out Records
         K3 pre k n v m = bind (settled s v m) (λ ts r. got ((pre ++ whole k n) ++ ts) r)
@@ -512,7 +524,7 @@ module _ (s : List ℕ) where
         K2 pre k n _ q = bind (by q) (K3 pre k n)
 
         K1 : Records → Item → Span → Out Records
-        K1 pre k n = bind (expect s 8 n) (K2 pre k n)
+        K1 pre k n = bind (expect s Colon n) (K2 pre k n)
 
         push : {A : Type 0} (o : Out A) (f : A → Span → Out Records) → bind (bind (bind o f) (go_on g before)) closing_k ≡ bind o (λ a n. bind (bind (f a n) (go_on g before)) closing_k)
         push o f = ap (λ (x : Out Records). bind x closing_k) (bind_assoc o f (go_on g before)) ∙ bind_assoc o (λ a n. bind (f a n) (go_on g before)) closing_k
@@ -524,8 +536,8 @@ module _ (s : List ℕ) where
     fewer_token : (n q : Span) (u : Unit {0}) → consume_token Colon (C n) ≡ read u (C q) → length (tokens_at s q.end false) ≤ length (tokens_at s n.end false)
     fewer_token n q u e = rw e at (consume_good Colon (C n))
 
-    far_token : (n c : Span) (u : Unit {0}) → Spot s n → expect s 8 n ≡ got u c → n.end ≤ c.end
-    far_token n c u b e = let f : (n.end + 1 ≤ c.end) × Spot s c = rw e at (expect_far s 8 n b) in omega (arith, f.0)
+    far_token : (n c : Span) (u : Unit {0}) → Spot s n → expect s Colon n ≡ got u c → n.end ≤ c.end
+    far_token n c u b e = let f : (n.end + 1 ≤ c.end) × Spot s c = rw e at (expect_far s Colon n b) in omega (arith, f.0)
 
     -- a key with its prefix and suffix comments
     key_is : (cs : List Slice) (k : TokenTree) (i : Item) (n : Span) → Shown k i n → tree_records (with_prefix cs k) ≡ comments 7 cs ++ whole i n
@@ -560,7 +572,7 @@ module _ (s : List ℕ) where
             (left ∙ map_off f cs (C r.to) (ending ∙ e)) (many_end (two s by) g l before r e) r.spot (no_pairs_lem before cs)
         go false e rec = along (left ∙ map_on f cs (C r.to) (ending ∙ e)) (map_turn g l before r e)
             (same_bind Shown (Mapped before) (value (C r.to)) (by r.to) (map_more f cs) (key_m g before cs) (same r.to r.spot) λ k i n p q sp hk.
-            same_bind Both (Mapped before) (consume_token Colon (C n)) (expect s 8 n) (map_value f cs k) (value_m g before (comments 7 cs ++ whole i n)) (consume_same Colon n sp) λ u u' c pc qc spc _.
+            same_bind Both (Mapped before) (consume_token Colon (C n)) (expect s Colon n) (map_value f cs k) (value_m g before (comments 7 cs ++ whole i n)) (consume_same Colon n sp) λ u u' c pc qc spc _.
             same_bind Shown (Mapped before) (value (C c)) (by c) (map_last f cs k) (last_m g before (comments 7 cs ++ whole i n)) (same c spc) λ v j m pv qv spv hv.
             let t = settle_same [] v j m spv hv in
             let own = comments 7 cs ++ whole i n in
@@ -589,30 +601,30 @@ module _ (s : List ℕ) where
     Valued start v ts n = value_records (span start n.end) v ≡ ts
 
     list_closed : (start : ℕ) (l : Span) → Spot s l
-        → Same (Valued start) (bindP (list_inside value (C l)) λ x c1. bindP (consume_token CloseList c1) λ _ c2. read (list_of x.values x.closing) c2) (closed s 4 3 start 0 (inside s (one s by) l))
+        → Same (Valued start) (bindP (list_inside value (C l)) λ x c1. bindP (consume_token CloseList c1) λ _ c2. read (list_of x.values x.closing) c2) (closed s 4 CloseList start 0 (inside s (one s by) l))
     unfolding closed value_records
     list_closed start l b =
         same_bind (Listed []) (Valued start) (list_inside value (C l)) (inside s (one s by) l)
-        (λ x c1. bindP (consume_token CloseList c1) λ _ c2. read (list_of x.values x.closing) c2) (λ ts p. bind (expect s 3 p) (λ _ q. got (header 4 start 0 q.end ts ∷ ts) q)) (list_inside_lem l b) λ x ts n p q sp h.
-        same_bind Both (Valued start) (consume_token CloseList (C n)) (expect s 3 n) (λ _ c2. read (list_of x.values x.closing) c2) (λ _ q. got (header 4 start 0 q.end ts ∷ ts) q) (consume_same CloseList n sp) λ u u' m pm qm spm _.
+        (λ x c1. bindP (consume_token CloseList c1) λ _ c2. read (list_of x.values x.closing) c2) (λ ts p. bind (expect s CloseList p) (λ _ q. got (header 4 start 0 q.end ts ∷ ts) q)) (list_inside_lem l b) λ x ts n p q sp h.
+        same_bind Both (Valued start) (consume_token CloseList (C n)) (expect s CloseList n) (λ _ c2. read (list_of x.values x.closing) c2) (λ _ q. got (header 4 start 0 q.end ts ∷ ts) q) (consume_same CloseList n sp) λ u u' m pm qm spm _.
         fine (list_of x.values x.closing) (header 4 start 0 m.end ts ∷ ts) m refl refl spm (ap (λ (y : Records). header 4 start 0 m.end y ∷ y) h)
 
     map_closed : (start : ℕ) (l : Span) → Spot s l
-        → Same (Valued start) (bindP (map_inside value (C l)) λ x c1. bindP (consume_token CloseBrace c1) λ _ c2. read (map_of x.key_values x.closing) c2) (closed s 5 5 start 0 (inside s (two s by) l))
+        → Same (Valued start) (bindP (map_inside value (C l)) λ x c1. bindP (consume_token CloseBrace c1) λ _ c2. read (map_of x.key_values x.closing) c2) (closed s 5 CloseBrace start 0 (inside s (two s by) l))
     unfolding closed value_records
     map_closed start l b =
         same_bind (Mapped []) (Valued start) (map_inside value (C l)) (inside s (two s by) l)
-        (λ x c1. bindP (consume_token CloseBrace c1) λ _ c2. read (map_of x.key_values x.closing) c2) (λ ts p. bind (expect s 5 p) (λ _ q. got (header 5 start 0 q.end ts ∷ ts) q)) (map_inside_lem l b) λ x ts n p q sp h.
-        same_bind Both (Valued start) (consume_token CloseBrace (C n)) (expect s 5 n) (λ _ c2. read (map_of x.key_values x.closing) c2) (λ _ q. got (header 5 start 0 q.end ts ∷ ts) q) (consume_same CloseBrace n sp) λ u u' m pm qm spm _.
+        (λ x c1. bindP (consume_token CloseBrace c1) λ _ c2. read (map_of x.key_values x.closing) c2) (λ ts p. bind (expect s CloseBrace p) (λ _ q. got (header 5 start 0 q.end ts ∷ ts) q)) (map_inside_lem l b) λ x ts n p q sp h.
+        same_bind Both (Valued start) (consume_token CloseBrace (C n)) (expect s CloseBrace n) (λ _ c2. read (map_of x.key_values x.closing) c2) (λ _ q. got (header 5 start 0 q.end ts ∷ ts) q) (consume_same CloseBrace n sp) λ u u' m pm qm spm _.
         fine (map_of x.key_values x.closing) (header 5 start 0 m.end ts ∷ ts) m refl refl spm (ap (λ (y : Records). header 5 start 0 m.end y ∷ y) h)
 
     variant_closed : (start : ℕ) (name : Slice) (l : Span) → Spot s l
-        → Same (Valued start) (bindP (list_inside value (C l)) λ x c1. bindP (consume_token CloseParen c1) λ _ c2. read (variant_of name x.values x.closing) c2) (closed s 6 7 start name.span.end (inside s (one s by) l))
+        → Same (Valued start) (bindP (list_inside value (C l)) λ x c1. bindP (consume_token CloseParen c1) λ _ c2. read (variant_of name x.values x.closing) c2) (closed s 6 CloseParen start name.span.end (inside s (one s by) l))
     unfolding closed value_records
     variant_closed start name l b =
         same_bind (Listed []) (Valued start) (list_inside value (C l)) (inside s (one s by) l)
-        (λ x c1. bindP (consume_token CloseParen c1) λ _ c2. read (variant_of name x.values x.closing) c2) (λ ts p. bind (expect s 7 p) (λ _ q. got (header 6 start name.span.end q.end ts ∷ ts) q)) (list_inside_lem l b) λ x ts n p q sp h.
-        same_bind Both (Valued start) (consume_token CloseParen (C n)) (expect s 7 n) (λ _ c2. read (variant_of name x.values x.closing) c2) (λ _ q. got (header 6 start name.span.end q.end ts ∷ ts) q) (consume_same CloseParen n sp) λ u u' m pm qm spm _.
+        (λ x c1. bindP (consume_token CloseParen c1) λ _ c2. read (variant_of name x.values x.closing) c2) (λ ts p. bind (expect s CloseParen p) (λ _ q. got (header 6 start name.span.end q.end ts ∷ ts) q)) (list_inside_lem l b) λ x ts n p q sp h.
+        same_bind Both (Valued start) (consume_token CloseParen (C n)) (expect s CloseParen n) (λ _ c2. read (variant_of name x.values x.closing) c2) (λ _ q. got (header 6 start name.span.end q.end ts ∷ ts) q) (consume_same CloseParen n sp) λ u u' m pm qm spm _.
         fine (variant_of name x.values x.closing) (header 6 start name.span.end m.end ts ∷ ts) m refl refl spm (ap (λ (y : Records). header 6 start name.span.end m.end y ∷ y) h)
 
     module _ (t : Token) (l : Span) (b : Spot s l) (g : Gets s l) (p : span_of t ≡ next_span s l) where
@@ -624,15 +636,17 @@ module _ (s : List ℕ) where
           (cond (eqb k 2) (list_at s by l)
           (cond (eqb k 4) (map_at s by l)
           (cond (strings k) (string_at s by l)
-          (cond (eqb k 16) (refuse (refusal 5 (span (length s) (length s))) l.end)
-          (refuse (refusal (number_of k) (next_span s l)) (next_span s l).end))))))
+          (cond (eqb k 16) (refuse (refused_at MissingValue (span (length s) (length s))) l.end)
+          (refuse (refused_at (reason_of k) (next_span s l)) (next_span s l).end))))))
 
       bare_is : (k : ℕ) → kind_at s l ≡ k → bare_at s by l ≡ bare_by k
       unfolding bare_at bare_by
       bare_is k e = ap bare_by e
 
-      no_value_lem : (n k : ℕ) → kind_at s l ≡ k → bare_by k ≡ refuse (refusal n (next_span s l)) (next_span s l).end → Same (Valued (next_span s l).start) (refuse_at n t) (bare_at s by l)
-      no_value_lem n k e f = fails (refusal n (next_span s l)) (next_span s l).end (ap (λ (sp : Span). refused (refusal n sp) sp.end) p) (bare_is k e ∙ f)
+      no_value_lem : (r : Reason) (k : ℕ) → refusal_of (refused_at r (next_span s l)) ≡ refusal (number_of r) (next_span s l) → kind_at s l ≡ k → bare_by k ≡ refuse (refused_at r (next_span s l)) (next_span s l).end
+          → Same (Valued (next_span s l).start) (refuse_at (number_of r) t) (bare_at s by l)
+      no_value_lem r k n e f = fails (refused_at r (next_span s l)) (next_span s l).end
+          (ap (λ (sp : Span). refused (refusal (number_of r) sp) sp.end) p ∙ ap (λ (q : paper.Refusal). refused q (next_span s l).end) (sym n)) (bare_is k e ∙ f)
 
       string_same : strings (kind_at s l) ≡ true → bare_at s by l ≡ string_at s by l → Same (Valued (next_span s l).start) (string_or_variant value t (C (next_span s l))) (bare_at s by l)
       unfolding string_or_variant variant_at leaf_at value_records
@@ -645,32 +659,32 @@ module _ (s : List ℕ) where
               along
               (rw (next_same OpenParen (next_span s l) g.bound ∙ f, string_or_variant)
               (ap (λ (c : Cursor). bindP (list_inside value c) λ x c1. bindP (consume_token CloseParen c1) λ _ c2. read (variant_of (slice_of t) x.values x.closing) c2) (skip_same (next_span s l) g.bound (omega (arith, k)))))
-              (e ∙ string_variant s by l k ∙ ap (λ (n : ℕ). closed s 6 7 (next_span s l).start n (inside s (one s by) (next_span s (next_span s l)))) (sym (ap (λ (sp : Span). sp.end) p)))
+              (e ∙ string_variant s by l k ∙ ap (λ (n : ℕ). closed s 6 CloseParen (next_span s l).start n (inside s (one s by) (next_span s (next_span s l)))) (sym (ap (λ (sp : Span). sp.end) p)))
               (variant_closed (next_span s l).start (slice_of t) (next_span s (next_span s l)) h.bound)
           go false f =
               fine (quoted_string t.slice) (leaf 3 (next_span s l) ∷ []) (next_span s l) (rw (next_same OpenParen (next_span s l) g.bound ∙ f, string_or_variant))
               (e ∙ string_leaf s by l (eqb-false (kind_at s (next_span s l)) 6 f)) g.bound refl
 
-      value_same : (k : TokenKind) → kind_at s l ≡ kind_number k → Same (Valued (next_span s l).start) (value_of value k t (C (next_span s l))) (bare_at s by l)
-      unfolding value_of bare_by strings number_of leaf_at value_records list_at map_at
-      value_same Invalid e = no_value_lem 3 0 e refl
-      value_same Comment e = no_value_lem 0 1 e refl
-      value_same OpenList e = along refl (bare_is 2 e) (list_closed (next_span s l).start (next_span s l) g.bound)
-      value_same CloseList e = no_value_lem 6 3 e refl
-      value_same OpenBrace e = along refl (bare_is 4 e) (map_closed (next_span s l).start (next_span s l) g.bound)
-      value_same CloseBrace e = no_value_lem 7 5 e refl
-      value_same OpenParen e = no_value_lem 9 6 e refl
-      value_same CloseParen e = no_value_lem 8 7 e refl
-      value_same Colon e = no_value_lem 10 8 e refl
-      value_same Comma e = no_value_lem 10 9 e refl
-      value_same Identifier e = fine (identifier t.slice) (leaf 1 (next_span s l) ∷ []) (next_span s l) refl (bare_is 10 e) g.bound refl
-      value_same Number e = fine (number t.slice) (leaf 2 (next_span s l) ∷ []) (next_span s l) refl (bare_is 11 e) g.bound refl
-      value_same DoubleQuotedString e = string_same (ap strings e) (bare_is 12 e)
-      value_same SingleQuotedString e = string_same (ap strings e) (bare_is 13 e)
-      value_same MultilineBasicString e = string_same (ap strings e) (bare_is 14 e)
-      value_same MultilineLiteralString e = string_same (ap strings e) (bare_is 15 e)
+      value_same : (kind_at s l ≡ 1 → ⊥) → (k : TokenKind) → kind_at s l ≡ kind_number k → Same (Valued (next_span s l).start) (value_of value k t (C (next_span s l))) (bare_at s by l)
+      unfolding value_of bare_by strings reason_of leaf_at value_records list_at map_at
+      value_same h Invalid e = no_value_lem Stray 0 refl e refl
+      value_same h Comment e = absurd (h e)
+      value_same h OpenList e = along refl (bare_is 2 e) (list_closed (next_span s l).start (next_span s l) g.bound)
+      value_same h CloseList e = no_value_lem UnbalancedList 3 refl e refl
+      value_same h OpenBrace e = along refl (bare_is 4 e) (map_closed (next_span s l).start (next_span s l) g.bound)
+      value_same h CloseBrace e = no_value_lem UnbalancedBrace 5 refl e refl
+      value_same h OpenParen e = no_value_lem Nameless 6 refl e refl
+      value_same h CloseParen e = no_value_lem UnbalancedParen 7 refl e refl
+      value_same h Colon e = no_value_lem NoValue 8 refl e refl
+      value_same h Comma e = no_value_lem NoValue 9 refl e refl
+      value_same h Identifier e = fine (identifier t.slice) (leaf 1 (next_span s l) ∷ []) (next_span s l) refl (bare_is 10 e) g.bound refl
+      value_same h Number e = fine (number t.slice) (leaf 2 (next_span s l) ∷ []) (next_span s l) refl (bare_is 11 e) g.bound refl
+      value_same h DoubleQuotedString e = string_same (ap strings e) (bare_is 12 e)
+      value_same h SingleQuotedString e = string_same (ap strings e) (bare_is 13 e)
+      value_same h MultilineBasicString e = string_same (ap strings e) (bare_is 14 e)
+      value_same h MultilineLiteralString e = string_same (ap strings e) (bare_is 15 e)
 
-    none_at : (l : Span) → kind_at s l ≡ 16 → bare_at s by l ≡ refuse (refusal 5 (span (length s) (length s))) l.end
+    none_at : (l : Span) → kind_at s l ≡ 16 → bare_at s by l ≡ refuse (refused_at MissingValue (span (length s) (length s))) l.end
     unfolding bare_at strings
     none_at l e = simp e
 
@@ -688,19 +702,19 @@ module _ (s : List ℕ) where
         (ap (λ (r : Option Slice × Cursor). read (tree (span start n.end) cs v r.0) r.1) x.parsed) refl (suffix_far s n b).1
         (ap (λ (r : Records). comments 7 cs ++ r) h, x.is)
 
-    behind_same : (cs : List Slice) (l : Span) → Spot s l → Same Shown (tree_behind (length s) value cs (C l)) (bind (bare_at s by l) (item_end (comments 7 cs)))
+    behind_same : (cs : List Slice) (l : Span) → (kind_at s l ≡ 1 → ⊥) → Spot s l → Same Shown (tree_behind (length s) value cs (C l)) (bind (bare_at s by l) (item_end (comments 7 cs)))
     unfolding tree_behind
-    behind_same cs l b = go (see s l b)
+    behind_same cs l h b = go (see s l b)
       where
         go : Seen s l → Same Shown (tree_behind (length s) value cs (C l)) (bind (bare_at s by l) (item_end (comments 7 cs)))
-        go (over k e) = fails (refusal 5 (span (length s) (length s))) l.end (ap (λ (ts : List Token). tree_behind (length s) value cs (behind l ts)) e) (ap (λ (o : Out Records). bind o (item_end (comments 7 cs))) (none_at l k))
+        go (over k e) = fails (refused_at MissingValue (span (length s) (length s))) l.end (ap (λ (ts : List Token). tree_behind (length s) value cs (behind l ts)) e) (ap (λ (o : Out Records). bind o (item_end (comments 7 cs))) (none_at l k))
         go (comes t e p k f g) =
             along
             (ap (λ (ts : List Token). tree_behind (length s) value cs (behind l ts)) e
             ∙ ap (λ (sp : Span). bindP (value_of value t.kind t (behind sp (tokens_at s (next_span s l).end false))) (tree_end t.start cs)) p
             ∙ ap (λ (n : ℕ). bindP (value_of value t.kind t (C (next_span s l))) (tree_end n cs)) (ap (λ (sp : Span). sp.start) p))
             refl
-            (same_bind (Valued (next_span s l).start) Shown (value_of value t.kind t (C (next_span s l))) (bare_at s by l) (tree_end (next_span s l).start cs) (item_end (comments 7 cs)) (value_same t l b g p t.kind (sym k)) λ v ts n _ _ sp h.
+            (same_bind (Valued (next_span s l).start) Shown (value_of value t.kind t (C (next_span s l))) (bare_at s by l) (tree_end (next_span s l).start cs) (item_end (comments 7 cs)) (value_same t l b g p h t.kind (sym k)) λ v ts n _ _ sp h.
             end_item (next_span s l).start cs v ts n sp h)
 
     pub item_same : (l : Span) → Spot s l → Same Shown (tree_with (length s) value (C l)) (item_at s by l)
@@ -709,15 +723,15 @@ module _ (s : List ℕ) where
         let r = comments_same l b in
         along (ap (λ (q : List Slice × Cursor). tree_behind (length s) value q.0 q.1) r.parsed)
         (ap (λ (o : Out Records). bind o (λ pre q. bind (bare_at s by q) (item_end pre))) (r.runs 7))
-        (behind_same r.found r.to r.spot)
+        (behind_same r.found r.to r.past r.spot)
 
   mutual
     unfolding value_at reader
 
     pub reader_same : (d : ℕ) (l : Span) → Spot s l → Same Shown (value_at (length s) d (C l)) (reader d s l)
-    reader_same zero l b = fails (refusal 4 l) l.end refl refl
+    reader_same zero l b = fails (refused_at TooDeep l) l.end refl refl
     reader_same (suc d) l b = item_same (inside_at (length s) d) (inside_at_good (length s) d) (below d s) (below_far d s) (λ q k. below_same d q k) l b
 
     pub below_same : (d : ℕ) (l : Span) → Spot s l → Same Shown (inside_at (length s) d (C l)) (below d s l)
-    below_same zero l b = fails (refusal 4 l) l.end refl refl
+    below_same zero l b = fails (refused_at TooDeep l) l.end refl refl
     below_same (suc d) l b = reader_same d l b

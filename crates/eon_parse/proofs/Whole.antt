@@ -1,35 +1,37 @@
+use Rattle.std.specs.Prelude.{None}
 -- A whole text read by places is the text read by the definition. Assumes nothing.
 use mathlib.Core.Path.{◌≡◌, refl, sym, ap, ◌∙◌}
 use mathlib.Core.Bool.{Bool, true, false, cond}
 use mathlib.Core.List.{List, [], ◌∷◌, ◌++◌, append-nil}
-use mathlib.Core.Option.{none}
 use Prim.Native.Nat.{ℕ, zero, suc, ◌<◌}
 use native.Mathlib.Omega.{arith}
 use lib.ListN.{length}
-use lib.Dec.{eqb}
+use lib.Dec.{eqb, ltb}
 use borrow.Author.Tests.{ne_eqb}
 use Rattle.eon_spec.specs.Utf8.{is_utf8}
 use Rattle.eon_spec.specs.Token.{Token, kind_number, tokens}
 use Rattle.eon_spec.specs.Tree.{Span, Slice, TokenTree, TokenTrees, KeyValues, tree, list_of, map_of, no_trees, ◌∷ᵗ◌}
-use Rattle.eon_spec.specs.declared.Refusal.{Refusal}
-use Rattle.eon_spec.specs.Parse.{refusal, Cursor, behind, Read, read, refused, bind as bindP, with_prefix, after_comma, TokenList, TokenMap, Reader, list_contents, list_inside, map_inside, inside_at, none_is_left, top_list, top_of, parse_top, parse}
+use Rattle.eon_spec.specs.declared.refusal.Refusal.{Refusal}
+use Rattle.eon_spec.specs.Refused.{refusal_of}
+use Rattle.eon_spec.specs.Parse.{refusal, further as further_paper, Cursor, behind, Read, read, refused, bind as bindP, with_prefix, after_comma, TokenList, TokenMap, Reader, list_contents, list_inside, map_inside, inside_at, none_is_left, top_list, top_of, parse_top, parse}
 use Rattle.eon_laws.proofs.Parse.{inside_at_good}
 use Rattle.eon_spec.specs.Records.{comments, tree_records, trees_records, pairs_records}
 use Rattle.eon_token.specs.Placed.{tokens_at}
 use Rattle.eon_token.specs.Place.{Spot, span, kind_at, next_span}
-use Rattle.eon_parse.specs.Walk.{Out, refuse, got, bind, Records, closes, loop, run, end_of, Item, settled, one, two, inside, header, below}
-use Rattle.eon_parse.specs.Top.{Shape, denied, asMap, asSingle, asSeveral, denies, gives, whole_of, shape_whole, ended, several_by, list_by, map_by, top_at}
-use Rattle.eon_token.proofs.Laws.{kind_small}
+use Rattle.eon_spec.specs.declared.refusal.Reason.TheVariants.{Surplus}
+use Rattle.eon_parse.specs.Walk.{refused_at, Out, refuse, got, bind, Records, closes, loop, run, end_of, Item, settled, one, two, inside, header, below}
+use Rattle.eon_parse.specs.Top.{further, Shape, denied, asMap, asSingle, asSeveral, denies, gives, whole_of, shape_whole, ended, several_by, list_by, map_by, top_at}
+use Rattle.eon_token.proofs.KindCodes.{kind_small}
 use Rattle.eon_token.proofs.Places.{Seen, over, comes, see, start_spot}
 use Rattle.eon_parse.proofs.Left.{below_far}
 use Rattle.eon_parse.proofs.Same.{C, Same, fine, fails, Ran, comments_same, Settled, settle_same, Shown, Listed, Mapped, stops_is, many_end, list_is, list_on, list_off, list_more, list_from, strict, fewer, fewer_comma, list_inside_lem, map_inside_lem, below_same, end_same}
 
 -- a container at the top
-map_top : (len : ℕ) (kvs : KeyValues) (cl : List Slice) (ts : Records) → pairs_records kvs ++ comments 9 cl ≡ ts → tree_records (tree (span 0 len) [] (map_of kvs cl) none) ≡ header 5 0 0 len ts ∷ ts
+map_top : (len : ℕ) (kvs : KeyValues) (cl : List Slice) (ts : Records) → pairs_records kvs ++ comments 9 cl ≡ ts → tree_records (tree (span 0 len) [] (map_of kvs cl) None) ≡ header 5 0 0 len ts ∷ ts
 unfolding tree_records
 map_top len kvs cl ts e = append-nil _ ∙ ap (λ (x : Records). header 5 0 0 len x ∷ x) e
 
-list_top_lem : (len : ℕ) (vs : TokenTrees) (cl : List Slice) (ts : Records) → trees_records vs ++ comments 9 cl ≡ ts → tree_records (tree (span 0 len) [] (list_of vs cl) none) ≡ header 4 0 0 len ts ∷ ts
+list_top_lem : (len : ℕ) (vs : TokenTrees) (cl : List Slice) (ts : Records) → trees_records vs ++ comments 9 cl ≡ ts → tree_records (tree (span 0 len) [] (list_of vs cl) None) ≡ header 4 0 0 len ts ∷ ts
 unfolding tree_records
 list_top_lem len vs cl ts e = append-nil _ ∙ ap (λ (x : Records). header 4 0 0 len x ∷ x) e
 
@@ -52,14 +54,14 @@ module _ (s : List ℕ) (u8 : is_utf8 s ≡ true) where
   none_left n b t x h = go (see s n b)
     where
       E : ℕ → Shape
-      E k = cond (eqb k 16) x (denied (refusal 13 (next_span s n)))
+      E k = cond (eqb k 16) x (denied (refused_at Surplus (next_span s n)))
 
       go : Seen s n → whole_of (none_is_left (C s n) t) ≡ shape_whole (ended s n x)
       go (over k e) = ap (λ (ts : List Token). whole_of (none_is_left (behind n ts) t)) e ∙ h ∙ sym (ap (λ (m : ℕ). shape_whole (E m)) k)
       go (comes y e p k f g) =
           ap (λ (ts : List Token). whole_of (none_is_left (behind n ts) t)) e
           ∙ ap (λ (sp : Span). denies (refusal 13 sp)) p
-          ∙ sym (ap (λ (b : Bool). shape_whole (cond b x (denied (refusal 13 (next_span s n))))) (ne_eqb (kind_number y.kind) 16 (λ z. omega (arith, kind_small y.kind))))
+          ∙ sym (ap (λ (b : Bool). shape_whole (cond b x (denied (refused_at Surplus (next_span s n))))) (ne_eqb (kind_number y.kind) 16 (λ z. omega (arith, kind_small y.kind))))
           ∙ ap (λ (m : ℕ). shape_whole (E m)) k
 
   same_args : (l : Span) → Spot s l → Same s (Shown s) (value (C s l)) (by l)
@@ -122,21 +124,28 @@ module _ (s : List ℕ) (u8 : is_utf8 s ≡ true) where
           absurd (omega arith)
 
   module _ (ra : Refusal) (la : ℕ) where
+    further_is : (q : Refusal) (e : ℕ) → denies (further_paper (refusal_of ra) la (refusal_of q) e) ≡ denies (refusal_of (further ra la q e))
+    further_is q e = go (ltb la e)
+      where
+        go : (b : Bool) → denies (cond b (refusal_of q) (refusal_of ra)) ≡ denies (refusal_of (cond b q ra))
+        go true = refl
+        go false = refl
+
     -- several values: the whole list
     several : (l : Read TokenList) (o : Out Records) → Same s (Listed s []) l o → ((x : TokenList) (c : Cursor) → l ≡ read x c → (t : TokenTree) × (u : TokenTree) × (us : TokenTrees) × (x.values ≡ t ∷ᵗ (u ∷ᵗ us)))
-        → whole_of (top_of (length s) (refused ra la) l) ≡ shape_whole (several_by s ra la o)
+        → whole_of (top_of (length s) (refused (refusal_of ra) la) l) ≡ shape_whole (several_by s ra la o)
     unfolding several_by
     several l o (fails q e p h) two =
-        ap (λ (x : Read TokenList). whole_of (top_of (length s) (refused ra la) x)) p ∙ sym (ap (λ (x : Out Records). shape_whole (several_by s ra la x)) h)
+        ap (λ (x : Read TokenList). whole_of (top_of (length s) (refused (refusal_of ra) la) x)) p ∙ further_is q e ∙ sym (ap (λ (x : Out Records). shape_whole (several_by s ra la x)) h)
     several l o (fine x ts n p h sp k) two =
         let t = two x (C s n) p in
-        ap (λ (y : Read TokenList). whole_of (top_of (length s) (refused ra la) y)) p
+        ap (λ (y : Read TokenList). whole_of (top_of (length s) (refused (refusal_of ra) la) y)) p
         ∙ ap (λ (vs : TokenTrees). whole_of (none_is_left (C s n) (top_list (length s) vs x.closing))) t.3
-        ∙ none_left n sp (tree (span 0 (length s)) [] (list_of (t.0 ∷ᵗ (t.1 ∷ᵗ t.2)) x.closing) none) (asSeveral (header 4 0 0 (length s) ts ∷ ts))
+        ∙ none_left n sp (tree (span 0 (length s)) [] (list_of (t.0 ∷ᵗ (t.1 ∷ᵗ t.2)) x.closing) None) (asSeveral (header 4 0 0 (length s) ts ∷ ts))
         (ap gives (list_top_lem (length s) (t.0 ∷ᵗ (t.1 ∷ᵗ t.2)) x.closing ts (ap (λ (vs : TokenTrees). trees_records vs ++ comments 9 x.closing) (sym t.3) ∙ k)))
         ∙ sym (ap (λ (y : Out Records). shape_whole (several_by s ra la y)) h)
 
-    lists : (r : Ran s start) → closes (kind_at s r.to) ≡ false → whole_of (top_of (length s) (refused ra la) (list_inside value (C s start))) ≡ shape_whole (list_by s ra la (one s by start))
+    lists : (r : Ran s start) → closes (kind_at s r.to) ≡ false → whole_of (top_of (length s) (refused (refusal_of ra) la) (list_inside value (C s start))) ≡ shape_whole (list_by s ra la (one s by start))
     unfolding list_inside list_by
     lists r e = go (same_args r.to r.spot)
       where
@@ -146,9 +155,10 @@ module _ (s : List ℕ) (u8 : is_utf8 s ≡ true) where
         first : list_inside value (C s start) ≡ bindP (value (C s r.to)) (turn_p F r.found)
         first = on F start at_start r e
 
-        go : Same s (Shown s) (value (C s r.to)) (by r.to) → whole_of (top_of (length s) (refused ra la) (list_inside value (C s start))) ≡ shape_whole (list_by s ra la (one s by start))
+        go : Same s (Shown s) (value (C s r.to)) (by r.to) → whole_of (top_of (length s) (refused (refusal_of ra) la) (list_inside value (C s start))) ≡ shape_whole (list_by s ra la (one s by start))
         go (fails q x p h) =
-            ap (λ (l : Read TokenList). whole_of (top_of (length s) (refused ra la) l)) (first ∙ ap (λ (y : Read TokenTree). bindP y (turn_p F r.found)) p)
+            ap (λ (l : Read TokenList). whole_of (top_of (length s) (refused (refusal_of ra) la) l)) (first ∙ ap (λ (y : Read TokenTree). bindP y (turn_p F r.found)) p)
+            ∙ further_is q x
             ∙ sym (ap (λ (o : Out Records). shape_whole (list_by s ra la o)) (one_is r ∙ ap (λ (y : Out Item). bind y (λ i n. bind (settled s i n) (λ ts m. got (comments 7 r.found ++ ts) m))) h))
         go (fine v i n p h sp k) = then (closes (kind_at s r2.to)) refl F fuel refl
           where
@@ -177,10 +187,10 @@ module _ (s : List ℕ) (u8 : is_utf8 s ≡ true) where
             L b = cond b (ended s (end_of (run s 7 t.to)) (asSingle (comments 7 r.found ++ t.recs))) (several_by s ra la (inside s (one s by) start))
 
             then : (x : Bool) → closes (kind_at s r2.to) ≡ x → (f : ℕ) → length (tokens_at s t.to.end false) < f → F ≡ f
-                → whole_of (top_of (length s) (refused ra la) (list_inside value (C s start))) ≡ shape_whole (list_by s ra la (one s by start))
+                → whole_of (top_of (length s) (refused (refusal_of ra) la) (list_inside value (C s start))) ≡ shape_whole (list_by s ra la (one s by start))
             then x q zero lt eq = absurd (omega arith)
             then true q (suc f) lt eq =
-                ap (λ (l : Read TokenList). whole_of (top_of (length s) (refused ra la) l))
+                ap (λ (l : Read TokenList). whole_of (top_of (length s) (refused (refusal_of ra) la) l))
                 (second ∙ ap (λ (g : ℕ). bindP (list_contents value g (C s t.to)) (put_first T)) eq ∙ ap (λ (y : Read TokenList). bindP y (put_first T)) (off f t.to t.spot r2 q))
                 ∙ none_left r2.to r2.spot T (asSingle (comments 7 r.found ++ t.recs)) (ap gives t.shown)
                 ∙ ap (λ (l : Span). shape_whole (ended s l (asSingle (comments 7 r.found ++ t.recs)))) (sym (ap end_of (r2.runs 7)))
@@ -202,7 +212,7 @@ module _ (s : List ℕ) (u8 : is_utf8 s ≡ true) where
       go : Same s (Mapped s []) (map_inside value (C s start)) (inside s (two s by) start) → whole_of (top_of (length s) (map_inside value (C s start)) (list_inside value (C s start))) ≡ shape_whole (map_by s (inside s (two s by) start))
       go (fine m ts n p h sp k) =
           ap (λ (x : Read TokenMap). whole_of (top_of (length s) x (list_inside value (C s start)))) p
-          ∙ none_left n sp (tree (span 0 (length s)) [] (map_of m.key_values m.closing) none) (asMap (header 5 0 0 (length s) ts ∷ ts)) (ap gives (map_top (length s) m.key_values m.closing ts k))
+          ∙ none_left n sp (tree (span 0 (length s)) [] (map_of m.key_values m.closing) None) (asMap (header 5 0 0 (length s) ts ∷ ts)) (ap gives (map_top (length s) m.key_values m.closing ts k))
           ∙ sym (ap (λ (o : Out Records). shape_whole (map_by s o)) h)
       go (fails ra la p h) =
           ap (λ (x : Read TokenMap). whole_of (top_of (length s) x (list_inside value (C s start)))) p

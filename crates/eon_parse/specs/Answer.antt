@@ -1,19 +1,21 @@
--- What the calls answer, by what the definition gives.
-use Rattle.std.specs.Prelude.{◌≡◌, ℕ, suc, ◌+◌, ◌-◌, ◌*◌, ◌≤◌, List, [], ◌∷◌, Bool, true, false, cond, length, get_or, ltb, eqb}
+-- What the readers answer, by what the definition gives: the walk, compared with an old table, and what is stored in another.
+use Rattle.std.specs.Prelude.{◌≡◌, ℕ, suc, ◌+◌, ◌-◌, ◌*◌, ◌≤◌, List, [], ◌∷◌, Bool, true, false, cond, length, get_or, ltb, eqb, Result, Ok, Err}
 use Rattle.std.proofs.lemmas.List.Edits.{sets}
 use Rattle.eon_spec.specs.Tree.{Span}
-use Rattle.eon_spec.specs.declared.Refusal.{Refusal}
-use Rattle.eon_spec.specs.Parse.{refusal}
+use Rattle.eon_spec.specs.RecordKind.{word_of}
+use Rattle.eon_spec.specs.declared.record_kind.RecordKind.{RecordKind}
+use Rattle.eon_spec.specs.declared.refusal.Refusal.{Refusal}
 use Rattle.eon_spec.specs.Records.{words}
-use Rattle.eon_token.specs.Place.{Spot, place_of, cursor_at, kind_at, next_span, span}
-use Rattle.eon_parse.specs.Walk.{Out, refuse, got, Records, Item, tail_r, suffix_end, expect, text_end, number_of}
+use Rattle.eon_token.specs.Place.{Spot, place_of, cursor_at, kind_at, next_span}
+use Rattle.eon_parse.specs.Walk.{Out, refuse, got, Records, Item, tail_r, suffix_end, text_end}
 use Rattle.eon_token.specs.declared.cursor.Cursor.{Cursor}
-use Rattle.eon_parse.specs.declared.Walk.{Walk}
-use Rattle.eon_parse.specs.declared.Stop.{Stop}
-use Rattle.eon_parse.specs.declared.Bare.{Bare}
-use Rattle.eon_parse.specs.declared.Bare.TheVariants.{Refused, Done}
-use Rattle.eon_parse.specs.declared.Got.{Got}
-use Rattle.eon_parse.specs.declared.Got.TheVariants.{Stopped, Value}
+use Rattle.eon_parse.specs.declared.words.Record.{Record}
+use Rattle.eon_parse.specs.declared.walk.Walk.{Walk}
+use Rattle.eon_parse.specs.declared.walk.Begun.{Begun}
+use Rattle.eon_parse.specs.declared.walk.Stop.{Stop}
+use Rattle.eon_parse.specs.declared.walk.Past.{Past}
+
+-- ---- words of a table
 
 unfoldable pub holds : List ℕ → ℕ → ℕ → Bool
 holds t i w = cond (ltb i (length t)) (eqb (get_or t i 0) w) false
@@ -22,8 +24,16 @@ unfoldable pub agrees : List ℕ → ℕ → List ℕ → Bool
 agrees t i [] = true
 agrees t i (w ∷ ws) = cond (holds t i w) (agrees t (suc i) ws) false
 
+abbrev pub words_of : Record → List ℕ
+words_of r = word_of r.kind ∷ r.start ∷ r.text_end ∷ r.end ∷ r.size ∷ []
+
+-- ---- a walk
+
 abbrev pub stop_of : Refusal → ℕ → Stop
 stop_of r e = record { refusal = r; consumed = e }
+
+abbrev pub past : Walk → ℕ → Result Past Stop
+past w f = Ok (record { walk = w; from = f })
 
 abbrev pub place : Walk → Span
 place w = place_of w.cursor
@@ -35,110 +45,91 @@ pub record Ready (s : List ℕ) (c : Cursor) (n : ℕ) : Type 0 where
   pub few : n ≤ c.end + 1
   pub fresh : c ≡ cursor_at s (place_of c)
 
--- the walk after records: its place, its records counted, its words compared
-unfoldable pub emit : List ℕ → List ℕ → Walk → Records → Span → Walk
-emit s tb w f l = record { cursor = cursor_at s l; count = w.count + length f; same = cond w.same (agrees tb (5 * w.count) (words f)) false }
-
-unfoldable pub ran : List ℕ → List ℕ → Walk → Out Records → Walk
-ran s tb w (refuse r e) = w
-ran s tb w (got f l) = emit s tb w f l
-
-unfoldable pub bared : List ℕ → List ℕ → Walk → Out Records → Bare
-bared s tb w (refuse r e) = Refused (stop_of r e)
-bared s tb w (got f l) = Done (emit s tb w f l)
-
-unfoldable pub counted : List ℕ → List ℕ → Walk → Out Item → Got
-counted s tb w (refuse r e) = Stopped (stop_of r e)
-counted s tb w (got i l) = Value (emit s tb w i.body l) i.from
-
 abbrev pub set_cursor : Walk → Cursor → Walk
 set_cursor w c = record { cursor = c; count = w.count; same = w.same }
 
--- records that end where the walk stands
-abbrev pub tailed : List ℕ → Walk → Records → Walk
-tailed tb w f = record { cursor = w.cursor; count = w.count + length f; same = cond w.same (agrees tb (5 * w.count) (words f)) false }
-
--- a token that begins no value; n is the text's length
-abbrev pub no_value : ℕ → Cursor → Bare
-no_value n c =
-    cond (eqb c.peeked.kind 16) (Refused (stop_of (refusal 5 (span n n)) c.end))
-    (Refused (stop_of (refusal (number_of c.peeked.kind) (span c.peeked.start c.peeked.end)) c.peeked.end))
-
+-- at another place; behind a token that starts a record
 abbrev pub moved : List ℕ → Walk → Span → Walk
 moved s w l = record { cursor = cursor_at s l; count = w.count; same = w.same }
-
-unfoldable pub expected : List ℕ → Walk → Out (Unit {0}) → Bare
-expected s w (refuse r e) = Refused (stop_of r e)
-expected s w (got u l) = Done (moved s w l)
 
 abbrev pub entered : List ℕ → Walk → Span → Walk
 entered s w l = record { cursor = cursor_at s l; count = w.count + 1; same = w.same }
 
--- the five words of the record that began as number `base` and ends where the walk stands
-abbrev pub record_words : Walk → ℕ → ℕ → ℕ → ℕ → List ℕ
-record_words w base kind start name = kind ∷ start ∷ text_end kind name w.cursor.end ∷ w.cursor.end ∷ (w.count - base) ∷ []
+-- the walk after records: its place, its records counted, their words compared with the old table's
+unfoldable pub emit : List ℕ → List ℕ → Walk → Records → Span → Walk
+emit s old w f l = record { cursor = cursor_at s l; count = w.count + length f; same = cond w.same (agrees old (5 * w.count) (words f)) false }
 
-abbrev pub compared_at : Walk → List ℕ → ℕ → ℕ → ℕ → ℕ → Walk
-compared_at w tb base kind start name = record {
-  cursor = w.cursor;
-  count = w.count;
-  same = cond w.same (agrees tb (5 * base) (record_words w base kind start name)) false;
-}
+-- records that end where the walk stands
+abbrev pub tailed : List ℕ → Walk → Records → Walk
+tailed old w f = record { cursor = w.cursor; count = w.count + length f; same = cond w.same (agrees old (5 * w.count) (words f)) false }
 
-abbrev pub settled_at : List ℕ → List ℕ → Walk → ℕ → Walk
-settled_at s tb w from =
-    cond (eqb (kind_at s (place w)) 9)
-    (emit s tb w (tail_r (next_span s (place w)).end (suffix_end s (next_span s (place w)))) (suffix_end s (next_span s (place w))))
-    (emit s tb w (tail_r from (place w)) (place w))
-
--- a container's end: the token that must come, and its record
-unfoldable pub sealed_at : List ℕ → List ℕ → Walk → Out (Unit {0}) → ℕ → ℕ → ℕ → ℕ → Bare
-sealed_at s tb w (refuse r e) base kind start name = Refused (stop_of r e)
-sealed_at s tb w (got u l) base kind start name = Done (compared_at (moved s w l) tb base kind start name)
-
-unfoldable pub closed_at : List ℕ → List ℕ → Bare → ℕ → ℕ → ℕ → ℕ → ℕ → Bare
-closed_at s tb (Refused x) close base kind start name = Refused x
-closed_at s tb (Done w) close base kind start name = sealed_at s tb w (expect s close (place w)) base kind start name
-
-abbrev pub ReadyBare : List ℕ → Bare → ℕ → Type 0
-ReadyBare s (Refused x) base = Unit {0}
-ReadyBare s (Done w) base = Ready s w.cursor w.count × (base ≤ w.count)
-
--- ---- filling: a walk after records, and the table with their words
-
-abbrev pub passed : List ℕ → Walk → Records → Span → Walk
-passed s w f l = record { cursor = cursor_at s l; count = w.count + length f; same = w.same }
-
-abbrev pub passed_here : Walk → Records → Walk
-passed_here w f = record { cursor = w.cursor; count = w.count + length f; same = w.same }
-
+-- the table with their words
 abbrev pub stored : List ℕ → Walk → Records → List ℕ
 stored tb w f = sets tb (5 * w.count) (words f)
 
-abbrev pub FilledF : List ℕ → List ℕ → Walk → Out Records → Walk → List ℕ → Type 0
-FilledF s tb w (refuse r e) x tb' = Unit {0}
-FilledF s tb w (got f l) x tb' = (x ≡ passed s w f l) × (tb' ≡ stored tb w f)
+-- ---- the end of a record
 
-abbrev pub FilledB : List ℕ → List ℕ → Walk → Out Records → Bare → List ℕ → Type 0
-FilledB s tb w (refuse r e) x tb' = x ≡ Refused (stop_of r e)
-FilledB s tb w (got f l) x tb' = (x ≡ Done (passed s w f l)) × (tb' ≡ stored tb w f)
+abbrev pub begun : RecordKind → ℕ → ℕ → ℕ → Begun
+begun kind base start name = record { kind = kind; base = base; start = start; name = name }
 
-abbrev pub FilledI : List ℕ → List ℕ → Walk → Out Item → Got → List ℕ → Type 0
-FilledI s tb w (refuse r e) x tb' = x ≡ Stopped (stop_of r e)
-FilledI s tb w (got i l) x tb' = (x ≡ Value (passed s w i.body l) i.from) × (tb' ≡ stored tb w i.body)
+-- the five words of the record that ends where the walk stands
+abbrev pub record_words : Walk → Begun → List ℕ
+record_words w b = word_of b.kind ∷ b.start ∷ text_end (word_of b.kind) b.name w.cursor.end ∷ w.cursor.end ∷ (w.count - b.base) ∷ []
 
-abbrev pub settled_f : List ℕ → Span → ℕ → Out Records
-settled_f s l from =
+abbrev pub put_at : Walk → List ℕ → ℕ → List ℕ → Walk
+put_at w old i ws = record { cursor = w.cursor; count = w.count; same = cond w.same (agrees old i ws) false }
+
+abbrev pub ended_at : Walk → List ℕ → Begun → Walk
+ended_at w old b = put_at w old (5 * b.base) (record_words w b)
+
+-- a record that the walk can end: it began before, and its places are small
+pub record Open (w : Walk) (b : Begun) : Type 0 where
+  pub base : b.base ≤ w.count
+  pub start : b.start ≤ w.cursor.end
+  pub name : b.name ≤ w.cursor.end
+  pub few : w.count ≤ 70000
+  pub short : w.cursor.end ≤ 65535
+
+-- ---- what a reader answers: the walk behind what is read, or why it is refused
+
+unfoldable pub ran : List ℕ → List ℕ → Walk → Out Records → Walk
+ran s old w (refuse r e) = w
+ran s old w (got f l) = emit s old w f l
+
+unfoldable pub bared : List ℕ → List ℕ → Walk → Out Records → Result Walk Stop
+bared s old w (refuse r e) = Err (stop_of r e)
+bared s old w (got f l) = Ok (emit s old w f l)
+
+unfoldable pub counted : List ℕ → List ℕ → Walk → Out Item → Result Past Stop
+counted s old w (refuse r e) = Err (stop_of r e)
+counted s old w (got i l) = past (emit s old w i.body l) i.from
+
+-- a token that must come, and then perhaps the end of a record
+unfoldable pub expected : List ℕ → Walk → Out (Unit {0}) → Result Walk Stop
+expected s w (refuse r e) = Err (stop_of r e)
+expected s w (got u l) = Ok (moved s w l)
+
+unfoldable pub closed_at : List ℕ → List ℕ → Walk → Out (Unit {0}) → Begun → Result Walk Stop
+closed_at s old w (refuse r e) b = Err (stop_of r e)
+closed_at s old w (got u l) b = Ok (ended_at (moved s w l) old b)
+
+-- ---- what it stores: the words of what is read. A refusal leaves anything there
+
+abbrev pub Stored : List ℕ → Walk → Out Records → List ℕ → Type 0
+Stored tb w (refuse r e) tb' = Unit {0}
+Stored tb w (got f l) tb' = tb' ≡ stored tb w f
+
+abbrev pub StoredItem : List ℕ → Walk → Out Item → List ℕ → Type 0
+StoredItem tb w (refuse r e) tb' = Unit {0}
+StoredItem tb w (got i l) tb' = tb' ≡ stored tb w i.body
+
+abbrev pub StoredEnd : List ℕ → List ℕ → Walk → Out (Unit {0}) → Begun → List ℕ → Type 0
+StoredEnd s tb w (refuse r e) b tb' = Unit {0}
+StoredEnd s tb w (got u l) b tb' = tb' ≡ sets tb (5 * b.base) (record_words (moved s w l) b)
+
+-- a value is settled: a comma looks for the suffix comment anew
+abbrev pub settled_r : List ℕ → Span → ℕ → Out Records
+settled_r s l from =
     cond (eqb (kind_at s l) 9)
     (got (tail_r (next_span s l).end (suffix_end s (next_span s l))) (suffix_end s (next_span s l)))
     (got (tail_r from l) l)
-
--- a container's end
-abbrev pub FilledE : List ℕ → List ℕ → Walk → Out (Unit {0}) → ℕ → ℕ → ℕ → ℕ → Bare → List ℕ → Type 0
-FilledE s tb w (refuse r e) base kind start name x tb' = x ≡ Refused (stop_of r e)
-FilledE s tb w (got u l) base kind start name x tb' =
-    (x ≡ Done (moved s w l)) × (tb' ≡ sets tb (5 * base) (record_words (moved s w l) base kind start name))
-
-abbrev pub FilledC : List ℕ → List ℕ → Bare → ℕ → ℕ → ℕ → ℕ → ℕ → Bare → List ℕ → Type 0
-FilledC s tb (Refused y) close base kind start name x tb' = x ≡ Refused y
-FilledC s tb (Done w) close base kind start name x tb' = FilledE s tb w (expect s close (place w)) base kind start name x tb'

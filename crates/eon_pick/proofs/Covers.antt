@@ -1,11 +1,6 @@
 -- Which bytes the records of a text cover: no byte beyond the text, and one at least where the text has one. So 27 is for the empty text.
-use mathlib.Core.Path.{◌≡◌, refl, sym, ◌∙◌, ap, subst}
-use mathlib.Core.Bool.{Bool, true, false, ◌||◌, or_assoc}
-use mathlib.Core.List.{List, [], ◌∷◌, ◌++◌}
-use mathlib.Core.Option.{Option, none, some}
-use Prim.Native.Nat.{ℕ, suc, ◌<◌}
-use native.Mathlib.Omega.{arith}
-use lib.ListN.{length}
+use Rattle.std.proofs.Common.{Option, None, Some, ◌≡◌, refl, sym, ◌∙◌, ap, subst, Bool, true, false, ◌||◌, List, [], ◌∷◌, ◌++◌, ℕ, suc, ◌<◌, arith, length}
+use Rattle.std.proofs.Math.Bool.{or_assoc}
 use Rattle.eon_spec.specs.Utf8.{is_utf8}
 use Rattle.eon_spec.specs.RecordKind.{IDENTIFIER, NUMBER, STRING, LIST, MAP, VARIANT, PREFIX_COMMENT, CLOSING_COMMENT}
 use Rattle.eon_spec.specs.Tree.{Span, TokenTree, TokenValue, tree, identifier, number, quoted_string, list_of, map_of, variant_of}
@@ -66,20 +61,20 @@ module _ (s : List ℕ) (formed : is_utf8 s ≡ true) (t : TokenTree) (e : parse
   covered_within b = within s b (tree_records t) (tree_spanned s t (tree_fits s formed t e))
 
   -- a text with a byte: a record is picked at every offset
-  pub some_picked : 0 < length s → (o : ℕ) → picked o (tree_records t) ≡ none → ⊥
+  pub some_picked : 0 < length s → (o : ℕ) → picked o (tree_records t) ≡ None → ⊥
   some_picked h o n =
       let c = tree_covers t (tree_has_byte s formed t e h) in
       let u = subst (Answered o (tree_records t)) n (picked_is o (tree_records t)) in
       clash c.1 (u c.0)
 
 -- none is picked in the empty text alone, at each offset
-pub none_picked : (s : List ℕ) → is_utf8 s ≡ true → (t : TokenTree) → parse s ≡ parsed t → (o : ℕ) → picked o (tree_records t) ≡ none → s ≡ []
+pub none_picked : (s : List ℕ) → is_utf8 s ≡ true → (t : TokenTree) → parse s ≡ parsed t → (o : ℕ) → picked o (tree_records t) ≡ None → s ≡ []
 none_picked [] formed t e o n = refl
 none_picked (b ∷ s) formed t e o n = absurd (some_picked (b ∷ s) formed t e (omega arith) o n)
 
-pub empty_none : is_utf8 [] ≡ true → (t : TokenTree) → parse [] ≡ parsed t → (o : ℕ) → picked o (tree_records t) ≡ none
+pub empty_none : is_utf8 [] ≡ true → (t : TokenTree) → parse [] ≡ parsed t → (o : ℕ) → picked o (tree_records t) ≡ None
 empty_none formed t e o = go (picked o (tree_records t)) (picked_is o (tree_records t))
   where
-    go : (x : Option ℕ) → Answered o (tree_records t) x → x ≡ none
-    go none a = refl
-    go (some n) a = absurd (let l : a.byte < 0 = covered_within [] formed t e a.byte a.near.is_covered in omega arith)
+    go : (x : Option ℕ) → Answered o (tree_records t) x → x ≡ None
+    go None a = refl
+    go (Some n) a = absurd (let l : a.byte < 0 = covered_within [] formed t e a.byte a.near.is_covered in omega arith)

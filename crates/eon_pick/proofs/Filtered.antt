@@ -1,14 +1,6 @@
 -- The list of hits is the filter of the table: each hit is a record that shares a byte with the range, each such record is a hit, and their
 -- numbers rise.
-use mathlib.Core.Path.{◌≡◌, refl, ap, subst, ◌∙◌}
-use mathlib.Core.Logic.{◌⊎◌, inl, inr}
-use mathlib.Core.Bool.{Bool, true, false}
-use mathlib.Core.List.{List, [], ◌∷◌}
-use mathlib.Core.Option.{some}
-use Prim.Native.Nat.{ℕ, zero, suc, ◌+◌, ◌≤◌, ◌<◌, min, max}
-use native.Mathlib.Omega.{arith}
-use lib.ListN.{length}
-use lib.Dec.{ltb, lt→ltb}
+use Rattle.std.proofs.Common.{Some, ◌≡◌, refl, ap, subst, ◌∙◌, ◌⊎◌, inl, inr, Bool, true, false, List, [], ◌∷◌, ℕ, zero, suc, ◌+◌, ◌≤◌, ◌<◌, min, max, arith, length, ltb, lt→ltb}
 use Rattle.eon_spec.specs.declared.Hit.{Hit}
 use Rattle.eon_spec.specs.Records.{Record}
 use Rattle.eon_spec.specs.Pick.{holds_byte, shares_byte, hit_of, hit_then, hits}
@@ -47,7 +39,7 @@ OneOf h (g ∷ gs) = (h ≡ g) ⊎ OneOf h gs
 module _ (from to : ℕ) where
   -- the hit of record k, where the first is number n
   abbrev pub OfRecord : ℕ → List Record → Hit → Type 0
-  OfRecord n rs h = (k : ℕ) × (q : Record) × (nth rs k ≡ some q) × (shares_byte from to q ≡ true) × (h ≡ hit_of (n + k) q)
+  OfRecord n rs h = (k : ℕ) × (q : Record) × (nth rs k ≡ Some q) × (shares_byte from to q ≡ true) × (h ≡ hit_of (n + k) q)
 
   shifted : (n : ℕ) (r : Record) (rs : List Record) (h : Hit) → OfRecord (suc n) rs h → OfRecord n (r ∷ rs) h
   shifted n r rs h o =
@@ -71,7 +63,7 @@ module _ (from to : ℕ) where
   this_one true h hs e = inl refl
   this_one false h hs e = absurd (let z : ◌≡◌ {A = ℕ} 0 1 = cc in omega arith)
 
-  pub record_is_hit : (n : ℕ) (rs : List Record) (k : ℕ) (q : Record) → nth rs k ≡ some q → shares_byte from to q ≡ true → OneOf (hit_of (n + k) q) (hits from to n rs)
+  pub record_is_hit : (n : ℕ) (rs : List Record) (k : ℕ) (q : Record) → nth rs k ≡ Some q → shares_byte from to q ≡ true → OneOf (hit_of (n + k) q) (hits from to n rs)
   record_is_hit n [] k q e s = absurd (let z : ◌≡◌ {A = ℕ} 0 1 = cc in omega arith)
   record_is_hit n (r ∷ rs) zero q e s = first (let z : r ≡ q = cc in z) (let z : n ≡ n + 0 = omega arith in z)
     where

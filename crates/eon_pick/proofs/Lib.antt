@@ -3,6 +3,6 @@ pub mod Covers
 pub mod Filtered
 pub mod Refusals
 pub mod Room
-pub mod Chosen
 pub mod Downward
+pub mod Chosen
 pub mod Listing

@@ -1,13 +1,6 @@
 -- The place picked: the byte is covered and no covered byte wins over it, so none is nearer and of those as near none is earlier; the record
 -- holds it, and none behind it does.
-use mathlib.Core.Path.{◌≡◌, refl, sym, ◌∙◌, ap, subst}
-use mathlib.Core.Bool.{Bool, true, false, ◌&&◌, ◌||◌, cond}
-use mathlib.Core.List.{List, [], ◌∷◌, ◌++◌}
-use mathlib.Core.Option.{Option, none, some}
-use Prim.Native.Nat.{ℕ, zero, suc, pred, ◌+◌, ◌-◌, min, max, ◌≤◌, ◌<◌}
-use native.Mathlib.Omega.{arith}
-use lib.Dec.{ltb, leb, eqb}
-use borrow.Author.Tests.{le-leb, lt-ltb, eq-eqb}
+use Rattle.std.proofs.Common.{Option, None, Some, ◌≡◌, refl, sym, ◌∙◌, ap, subst, Bool, true, false, ◌&&◌, ◌||◌, cond, List, [], ◌∷◌, ◌++◌, ℕ, zero, suc, pred, ◌+◌, ◌-◌, min, max, ◌≤◌, ◌<◌, arith, ltb, leb, eqb, le-leb, lt-ltb, eq-eqb}
 use Rattle.eon_spec.specs.Records.{Record}
 use Rattle.eon_laws.proofs.Facts.{clash, and_left, and_right, nor_left, nor_right, false_of, le_of, lt_of, eq_of, le_of_not}
 use Rattle.eon_spec.specs.Pick.{holds_byte, distance, nearest_in, prefers, wins, nearer, nearest, or_this, highest, picked_by, picked}
@@ -105,30 +98,30 @@ clamp_least o c a e g h = go (ltb o a) (ltb o e) refl refl
 clamp_within : (o a e : ℕ) → a < e → (a ≤ max a (min o (pred e))) × (max a (min o (pred e)) < e)
 clamp_within o a e h = (omega arith, omega arith)
 
-nearest_in_lem : (o : ℕ) (r : Record) (b c : ℕ) → nearest_in o r ≡ some b → holds_byte c r ≡ true → rank o b ≤ rank o c
+nearest_in_lem : (o : ℕ) (r : Record) (b c : ℕ) → nearest_in o r ≡ Some b → holds_byte c r ≡ true → rank o b ≤ rank o c
 nearest_in_lem o r b c e h = go (ltb r.start r.end) refl e (held c r h)
   where
-    go : (x : Bool) → ltb r.start r.end ≡ x → nearest_in o r ≡ some b → (r.start ≤ c) × (c < r.end) → rank o b ≤ rank o c
+    go : (x : Bool) → ltb r.start r.end ≡ x → nearest_in o r ≡ Some b → (r.start ≤ c) × (c < r.end) → rank o b ≤ rank o c
     go true p e h =
-        let k : max r.start (min o (pred r.end)) ≡ b = let z : some (max r.start (min o (pred r.end))) ≡ some b = rw p at e in cc in
+        let k : max r.start (min o (pred r.end)) ≡ b = let z : Some (max r.start (min o (pred r.end))) ≡ Some b = rw p at e in cc in
         rw (sym k) (clamp_least o c r.start r.end h.0 h.1)
-    go false p e h = absurd (let z : ◌≡◌ {A = Option ℕ} none (some b) = rw p at e in let w : ◌≡◌ {A = ℕ} 0 1 = cc in omega arith)
+    go false p e h = absurd (let z : ◌≡◌ {A = Option ℕ} None (Some b) = rw p at e in let w : ◌≡◌ {A = ℕ} 0 1 = cc in omega arith)
 
-nearest_held : (o : ℕ) (r : Record) (b : ℕ) → nearest_in o r ≡ some b → holds_byte b r ≡ true
+nearest_held : (o : ℕ) (r : Record) (b : ℕ) → nearest_in o r ≡ Some b → holds_byte b r ≡ true
 nearest_held o r b e = go (ltb r.start r.end) refl e
   where
-    go : (x : Bool) → ltb r.start r.end ≡ x → nearest_in o r ≡ some b → holds_byte b r ≡ true
+    go : (x : Bool) → ltb r.start r.end ≡ x → nearest_in o r ≡ Some b → holds_byte b r ≡ true
     go true p e =
-        let k : max r.start (min o (pred r.end)) ≡ b = let z : some (max r.start (min o (pred r.end))) ≡ some b = rw p at e in cc in
+        let k : max r.start (min o (pred r.end)) ≡ b = let z : Some (max r.start (min o (pred r.end))) ≡ Some b = rw p at e in cc in
         let w = clamp_within o r.start r.end (lt_of r.start r.end p) in
         subst (λ (x : ℕ). holds_byte x r ≡ true) k (holds_of (max r.start (min o (pred r.end))) r w.0 w.1)
-    go false p e = absurd (let z : ◌≡◌ {A = Option ℕ} none (some b) = rw p at e in let w : ◌≡◌ {A = ℕ} 0 1 = cc in omega arith)
+    go false p e = absurd (let z : ◌≡◌ {A = Option ℕ} None (Some b) = rw p at e in let w : ◌≡◌ {A = ℕ} 0 1 = cc in omega arith)
 
-nearest_empty : (o : ℕ) (r : Record) (c : ℕ) → nearest_in o r ≡ none → holds_byte c r ≡ false
+nearest_empty : (o : ℕ) (r : Record) (c : ℕ) → nearest_in o r ≡ None → holds_byte c r ≡ false
 nearest_empty o r c e = false_of (holds_byte c r) λ h. go (ltb r.start r.end) refl e (held c r h)
   where
-    go : (x : Bool) → ltb r.start r.end ≡ x → nearest_in o r ≡ none → (r.start ≤ c) × (c < r.end) → ⊥
-    go true p e h = let z : ◌≡◌ {A = Option ℕ} (some (max r.start (min o (pred r.end)))) none = rw p at e in let w : ◌≡◌ {A = ℕ} 0 1 = cc in omega arith
+    go : (x : Bool) → ltb r.start r.end ≡ x → nearest_in o r ≡ None → (r.start ≤ c) × (c < r.end) → ⊥
+    go true p e h = let z : ◌≡◌ {A = Option ℕ} (Some (max r.start (min o (pred r.end)))) None = rw p at e in let w : ◌≡◌ {A = ℕ} 0 1 = cc in omega arith
     go false p e h = omega (arith, le_of_not r.start r.end p, h.0, h.1)
 
 -- the byte b is covered, and no covered byte wins over it
@@ -138,8 +131,8 @@ pub record Nearest (o b : ℕ) (rs : List Record) : Type 0 where
 
 -- what the definition finds: the nearest byte, or nothing where no byte is covered
 abbrev pub Found : ℕ → List Record → Option ℕ → Type 0
-Found o rs none = (c : ℕ) → covered c rs ≡ false
-Found o rs (some b) = Nearest o b rs
+Found o rs None = (c : ℕ) → covered c rs ≡ false
+Found o rs (Some b) = Nearest o b rs
 
 or_true : (x y : Bool) → y ≡ true → x || y ≡ true
 or_true true y e = refl
@@ -158,20 +151,20 @@ le_le : (x y z : ℕ) → x ≤ y → y ≤ z → x ≤ z
 le_le x y z g h = omega arith
 
 nearer_found : (o : ℕ) (r : Record) (rs : List Record) (x y : Option ℕ) → nearest_in o r ≡ x → Found o rs y → Found o (r ∷ rs) (nearer o x y)
-nearer_found o r rs none none e f = λ c. or_none (holds_byte c r) (covered c rs) (nearest_empty o r c e) (f c)
-nearer_found o r rs none (some b) e f =
+nearer_found o r rs None None e f = λ c. or_none (holds_byte c r) (covered c rs) (nearest_empty o r c e) (f c)
+nearer_found o r rs None (Some b) e f =
     record {
       is_covered = or_true (holds_byte b r) (covered b rs) f.is_covered;
       none_wins = λ c h. or_cases (holds_byte c r) (covered c rs) h (λ k. clash k (nearest_empty o r c e)) (f.none_wins c);
     }
-nearer_found o r rs (some a) none e f =
+nearer_found o r rs (Some a) None e f =
     record {
       is_covered = or_left (holds_byte a r) (covered a rs) (nearest_held o r a e);
       none_wins = λ c h. or_cases (holds_byte c r) (covered c rs) h (λ k. more_loses o c a (nearest_in_lem o r a c e k)) (λ k. clash k (f c));
     }
-nearer_found o r rs (some a) (some b) e f = go (wins o b a) refl
+nearer_found o r rs (Some a) (Some b) e f = go (wins o b a) refl
   where
-    go : (x : Bool) → wins o b a ≡ x → Found o (r ∷ rs) (cond x (some b) (some a))
+    go : (x : Bool) → wins o b a ≡ x → Found o (r ∷ rs) (cond x (Some b) (Some a))
     go true p =
         record {
           is_covered = or_true (holds_byte b r) (covered b rs) f.is_covered;
@@ -211,41 +204,41 @@ offset_held o b rs h n = let l = loses_more o o b (n.none_wins o h) in sole o b 
 -- ---- the highest record
 
 abbrev pub nth : List Record → ℕ → Option Record
-nth [] k = none
-nth (r ∷ rs) zero = some r
+nth [] k = None
+nth (r ∷ rs) zero = Some r
 nth (r ∷ rs) (suc k) = nth rs k
 
 -- the record at k holds the byte, and none behind it does
 pub record Highest (b k : ℕ) (rs : List Record) : Type 0 where
   pub it : Record
-  pub stands : nth rs k ≡ some it
+  pub stands : nth rs k ≡ Some it
   pub holds : holds_byte b it ≡ true
-  pub last : (j : ℕ) (q : Record) → k < j → nth rs j ≡ some q → holds_byte b q ≡ false
+  pub last : (j : ℕ) (q : Record) → k < j → nth rs j ≡ Some q → holds_byte b q ≡ false
 
 -- what the definition answers; the first record is number n
 abbrev pub Top : ℕ → ℕ → List Record → Option ℕ → Type 0
-Top b n rs none = covered b rs ≡ false
-Top b n rs (some m) = (k : ℕ) × (m ≡ n + k) × Highest b k rs
+Top b n rs None = covered b rs ≡ false
+Top b n rs (Some m) = (k : ℕ) × (m ≡ n + k) × Highest b k rs
 
-uncovered : (b : ℕ) (rs : List Record) → covered b rs ≡ false → (j : ℕ) (q : Record) → nth rs j ≡ some q → holds_byte b q ≡ false
+uncovered : (b : ℕ) (rs : List Record) → covered b rs ≡ false → (j : ℕ) (q : Record) → nth rs j ≡ Some q → holds_byte b q ≡ false
 uncovered b [] h j q e = absurd (let z : ◌≡◌ {A = ℕ} 0 1 = cc in omega arith)
 uncovered b (r ∷ rs) h zero q e = let z : r ≡ q = cc in ap (holds_byte b) (sym z) ∙ nor_left (holds_byte b r) (covered b rs) h
 uncovered b (r ∷ rs) h (suc j) q e = uncovered b rs (nor_right (holds_byte b r) (covered b rs) h) j q e
 
-behind : (b : ℕ) (r : Record) (rs : List Record) → covered b rs ≡ false → (j : ℕ) (q : Record) → 0 < j → nth (r ∷ rs) j ≡ some q → holds_byte b q ≡ false
+behind : (b : ℕ) (r : Record) (rs : List Record) → covered b rs ≡ false → (j : ℕ) (q : Record) → 0 < j → nth (r ∷ rs) j ≡ Some q → holds_byte b q ≡ false
 behind b r rs h zero q l e = absurd (omega arith)
 behind b r rs h (suc j) q l e = uncovered b rs h j q e
 
-further : (b k : ℕ) (r : Record) (rs : List Record) → Highest b k rs → (j : ℕ) (q : Record) → suc k < j → nth (r ∷ rs) j ≡ some q → holds_byte b q ≡ false
+further : (b k : ℕ) (r : Record) (rs : List Record) → Highest b k rs → (j : ℕ) (q : Record) → suc k < j → nth (r ∷ rs) j ≡ Some q → holds_byte b q ≡ false
 further b k r rs h zero q l e = absurd (omega arith)
 further b k r rs h (suc j) q l e = h.last j q (omega arith) e
 
 top_step : (b n : ℕ) (r : Record) (rs : List Record) (o : Option ℕ) → Top b (suc n) rs o → Top b n (r ∷ rs) (or_this o (holds_byte b r) n)
-top_step b n r rs (some m) t =
+top_step b n r rs (Some m) t =
     (suc t.0, omega (arith, t.1), record { it = t.2.it; stands = t.2.stands; holds = t.2.holds; last = further b t.0 r rs t.2 })
-top_step b n r rs none t = go (holds_byte b r) refl
+top_step b n r rs None t = go (holds_byte b r) refl
   where
-    go : (x : Bool) → holds_byte b r ≡ x → Top b n (r ∷ rs) (cond x (some n) none)
+    go : (x : Bool) → holds_byte b r ≡ x → Top b n (r ∷ rs) (cond x (Some n) None)
     go true p = (0, omega arith, record { it = r; stands = refl; holds = p; last = behind b r rs t })
     go false p = or_none (holds_byte b r) (covered b rs) p t
 
@@ -263,20 +256,20 @@ pub record Picked (o n : ℕ) (rs : List Record) : Type 0 where
 
 -- an answer, or no byte is covered
 abbrev pub Answered : ℕ → List Record → Option ℕ → Type 0
-Answered o rs none = (c : ℕ) → covered c rs ≡ false
-Answered o rs (some n) = Picked o n rs
+Answered o rs None = (c : ℕ) → covered c rs ≡ false
+Answered o rs (Some n) = Picked o n rs
 
 pub picked_is : (o : ℕ) (rs : List Record) → Answered o rs (picked o rs)
 unfolding picked
 picked_is o rs = go (nearest o rs) (nearest_found o rs)
   where
     top : (b : ℕ) → Nearest o b rs → (x : Option ℕ) → Top b 0 rs x → Answered o rs x
-    top b f none t = λ c. clash f.is_covered t
-    top b f (some n) t = record { byte = b; near = f; high = subst (λ (k : ℕ). Highest b k rs) (let e = t.1 in omega arith) t.2 }
+    top b f None t = λ c. clash f.is_covered t
+    top b f (Some n) t = record { byte = b; near = f; high = subst (λ (k : ℕ). Highest b k rs) (let e = t.1 in omega arith) t.2 }
 
     go : (x : Option ℕ) → Found o rs x → Answered o rs (picked_by x rs)
-    go none f = f
-    go (some b) f = top b f (highest b 0 rs) (highest_top b 0 rs)
+    go None f = f
+    go (Some b) f = top b f (highest b 0 rs) (highest_top b 0 rs)
 
 -- ---- record by record, as a loop goes
 
@@ -290,24 +283,24 @@ less_wins o b a h = go (wins o b a) refl
     go true e = refl
     go false e = absurd (less_not (rank o b) (rank o a) h (loses_more o b a e))
 
-nearer_none : (o : ℕ) (x : Option ℕ) → nearer o x none ≡ x
-nearer_none o none = refl
-nearer_none o (some a) = refl
+nearer_none : (o : ℕ) (x : Option ℕ) → nearer o x None ≡ x
+nearer_none o None = refl
+nearer_none o (Some a) = refl
 
 less_less : (m n k : ℕ) → m < n → n < k → m < k
 less_less m n k g h = omega arith
 
 nearer_assoc : (o : ℕ) (x y z : Option ℕ) → nearer o (nearer o x y) z ≡ nearer o x (nearer o y z)
-nearer_assoc o none y z = refl
-nearer_assoc o (some a) none z = refl
-nearer_assoc o (some a) (some b) none = nearer_none o (nearer o (some a) (some b))
-nearer_assoc o (some a) (some b) (some c) = go (wins o b a) (wins o c b) refl refl
+nearer_assoc o None y z = refl
+nearer_assoc o (Some a) None z = refl
+nearer_assoc o (Some a) (Some b) None = nearer_none o (nearer o (Some a) (Some b))
+nearer_assoc o (Some a) (Some b) (Some c) = go (wins o b a) (wins o c b) refl refl
   where
-    go : (x y : Bool) → wins o b a ≡ x → wins o c b ≡ y → nearer o (cond x (some b) (some a)) (some c) ≡ nearer o (some a) (cond y (some c) (some b))
-    go true true p q = ap (λ (w : Bool). cond w (some c) (some b)) q ∙ sym (ap (λ (w : Bool). cond w (some c) (some a)) (less_wins o c a (less_less (rank o c) (rank o b) (rank o a) (wins_less o c b q) (wins_less o b a p))))
-    go true false p q = ap (λ (w : Bool). cond w (some c) (some b)) q ∙ sym (ap (λ (w : Bool). cond w (some b) (some a)) p)
+    go : (x y : Bool) → wins o b a ≡ x → wins o c b ≡ y → nearer o (cond x (Some b) (Some a)) (Some c) ≡ nearer o (Some a) (cond y (Some c) (Some b))
+    go true true p q = ap (λ (w : Bool). cond w (Some c) (Some b)) q ∙ sym (ap (λ (w : Bool). cond w (Some c) (Some a)) (less_wins o c a (less_less (rank o c) (rank o b) (rank o a) (wins_less o c b q) (wins_less o b a p))))
+    go true false p q = ap (λ (w : Bool). cond w (Some c) (Some b)) q ∙ sym (ap (λ (w : Bool). cond w (Some b) (Some a)) p)
     go false true p q = refl
-    go false false p q = ap (λ (w : Bool). cond w (some c) (some a)) (more_loses o c a (le_le (rank o a) (rank o b) (rank o c) (loses_more o b a p) (loses_more o c b q))) ∙ sym (ap (λ (w : Bool). cond w (some b) (some a)) p)
+    go false false p q = ap (λ (w : Bool). cond w (Some c) (Some a)) (more_loses o c a (le_le (rank o a) (rank o b) (rank o c) (loses_more o b a p) (loses_more o c b q))) ∙ sym (ap (λ (w : Bool). cond w (Some b) (Some a)) p)
 
 pub nearest_next : (o : ℕ) (rs : List Record) (r : Record) → nearest o (rs ++ (r ∷ [])) ≡ nearer o (nearest o rs) (nearest_in o r)
 nearest_next o [] r = nearer_none o (nearest_in o r)

@@ -1,12 +1,6 @@
 -- Which numbers refuse the two calls: those of the text and its table, then 27, for the empty text alone, or 14. A refusal keeps the list.
-use mathlib.Core.Path.{◌≡◌, refl, sym, ap, ◌∙◌}
-use mathlib.Core.Logic.{◌⊎◌, inl, inr}
-use mathlib.Core.List.{List, []}
-use mathlib.Core.Option.{Option, none, some}
-use Prim.Native.Nat.{ℕ, ◌<◌}
-use native.Mathlib.Omega.{arith}
-use lib.ListN.{length}
-use Rattle.eon_spec.specs.declared.Refusal.{Refusal}
+use Rattle.std.proofs.Common.{Option, None, Some, ◌≡◌, refl, sym, ap, ◌∙◌, ◌⊎◌, inl, inr, List, [], ℕ, ◌<◌, arith, length}
+use Rattle.eon_spec.specs.Refused.{Refusal}
 use Rattle.eon_spec.specs.declared.Hit.{Hit}
 use Rattle.eon_spec.specs.Tree.{TokenTree}
 use Rattle.eon_spec.specs.Records.{tree_records}
@@ -24,8 +18,8 @@ module _ (s tb : List ℕ) where
   record_at_numbers o r e = go (call_numbered r s tb (λ t. or_refused 27 (picked o (tree_records t))) e)
     where
       by_tree : (t : TokenTree) → read_finished s tb ≡ done t → (x : Option ℕ) → picked o (tree_records t) ≡ x → or_refused 27 x ≡ refused_with r → (s ≡ []) × (r ≡ nowhere 27)
-      by_tree t q none p f = let h = read_finished_lem s tb t q in (none_picked s h.utf8 t h.parses o p, (let z : nowhere 27 ≡ r = cc in sym z))
-      by_tree t q (some n) p f = answers_not n r f
+      by_tree t q None p f = let h = read_finished_lem s tb t q in (none_picked s h.utf8 t h.parses o p, (let z : nowhere 27 ≡ r = cc in sym z))
+      by_tree t q (Some n) p f = answers_not n r f
 
       go : OfTable r ⊎ ((t : TokenTree) × (read_finished s tb ≡ done t) × (or_refused 27 (picked o (tree_records t)) ≡ refused_with r)) → OfTable r ⊎ ((s ≡ []) × (r ≡ nowhere 27))
       go (inl n) = inl n
@@ -46,8 +40,8 @@ module _ (s tb : List ℕ) where
   every_offset t q h o = go (picked o (tree_records t)) refl
     where
       go : (x : Option ℕ) → picked o (tree_records t) ≡ x → (n : ℕ) × (then (read_finished s tb) (λ t. or_refused 27 (picked o (tree_records t))) ≡ done n)
-      go none p = let f = read_finished_lem s tb t q in absurd (some_picked s f.utf8 t f.parses h o p)
-      go (some n) p = (n, ap (λ (x : Outcome TokenTree). then x (λ t. or_refused 27 (picked o (tree_records t)))) q ∙ ap (or_refused 27) p)
+      go None p = let f = read_finished_lem s tb t q in absurd (some_picked s f.utf8 t f.parses h o p)
+      go (Some n) p = (n, ap (λ (x : Outcome TokenTree). then x (λ t. or_refused 27 (picked o (tree_records t)))) q ∙ ap (or_refused 27) p)
 
   -- the range call: 1 to 13, 15, 14
   pub records_in_numbers : (from to : ℕ) (l : List Hit) (r : Refusal) → (records_in_call s tb from to l).answer ≡ refused_with r → OfTable r ⊎ (r ≡ nowhere 14)

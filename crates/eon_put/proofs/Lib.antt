@@ -1,1 +1,2 @@
-pub mod Writing
+pub mod Indents
+pub mod Going

@@ -1,2 +1,2 @@
 pub mod Put
-pub mod Options
+pub mod Laws

@@ -1,117 +1,104 @@
-// Bytes put at a position of a lent output, or only counted: what layout writes by.
+// Where layout puts its bytes: a lent memory that is written, or one that is only measured.
 #![tactic(auto)]
 
-ghost use Rattle.std.specs.Prelude.{◌≡◌, [], ◌∷◌, ◌+◌, ◌-◌, ◌<◌, ◌≤◌, length, take, drop};
-ghost use Rattle.std.proofs.lemmas.List.Edits.{sets};
-ghost use Rattle.eon_spec.specs.Layout.{setting_max, add_indent, text_of, settings_of};
-ghost use Rattle.eon_put.specs.Put.{Wrote};
-ghost use Rattle.eon_table.specs.Words.{word, Within, text_at, part};
-ghost use Rattle.eon_put.specs.Options.{Short};
+ghost use Rattle.std.specs.Prelude.{List, [], ◌∷◌, ◌++◌, ℕ};
+ghost use Rattle.eon_spec.specs.Layout.{text_of, settings_of, add_indent};
 
-use eon_spec::{FormatOptions, Setting};
-use eon_table::record::word;
+use eon_spec::FormatOptions;
 
-// One byte at a position, stored where the walk is live. A full memory answers its length and one.
-pub fn put(out: &mut [u8], live: bool, at: usize, b: u8) -> usize
-    ensures { Wrote live out.old at (b ∷ []) result out.new }
-{
-    if at < out.len() {
-        if live {
-            out[at] = b;
-            return at + 1;
+pub trait Sink {
+    // `puts s b t`: the bytes b were put, which made t of s.
+    ghost puts: { Self → List ℕ → Self → Type 0 };
+
+    fn put(&mut self, byte: u8)
+        ensures { puts self.old (byte ∷ []) self.new };
+
+    fn put_all(&mut self, bytes: &[u8])
+        ensures { puts self.old bytes.now self.new };
+
+    ghost nothing: { (s : Self) → puts s [] s };
+
+    ghost append: { (s t u : Self) (b c : List ℕ) → puts s b t → puts t c u → puts s (b ++ c) u };
+}
+
+// The room that is left, as long as all bytes fitted.
+#[derive(Clone, Copy)]
+pub struct Measure {
+    pub left: Option<usize>,
+}
+
+impl Sink for Measure {
+    ghost use Rattle.eon_put.specs.Put.{Measures};
+    ghost use Rattle.eon_put.specs.Laws.{measures_nothing, measures_append};
+
+    ghost puts = { Measures };
+
+    ghost nothing = { measures_nothing };
+
+    ghost append = { measures_append };
+
+    fn put(&mut self, _byte: u8) {
+        self.left = self.left.and_then(|room| room.checked_sub(1));
+    }
+
+    fn put_all(&mut self, bytes: &[u8]) {
+        self.left = self.left.and_then(|room| room.checked_sub(bytes.len()));
+    }
+}
+
+// A lent memory, and where the next byte goes, as long as all bytes fitted.
+#[derive(Drop)]
+pub struct Writer<'a> {
+    pub out: &'a mut [u8],
+    pub at: Option<usize>,
+}
+
+impl Sink for Writer<'_> {
+    ghost use Rattle.eon_put.specs.Put.{Writes};
+    ghost use Rattle.eon_put.specs.Laws.{writes_nothing, writes_append};
+
+    ghost puts = { Writes };
+
+    ghost nothing = { writes_nothing };
+
+    ghost append = { writes_append };
+
+    fn put(&mut self, byte: u8) {
+        let at = self.at;
+        self.at = None;
+        if let Some(at) = at {
+            if at < self.out.len() {
+                self.out[at] = byte;
+                self.at = Some(at + 1);
+            }
         }
-        return at + 1;
     }
-    out.len() + 1
-}
 
-// `n` bytes of `src` from `from` on, to `at` on: all of them fit, so a turn tests nothing else.
-fn copy(src: &[u8], from: usize, n: usize, out: &mut [u8], at: usize)
-    requires { (from + n ≤ length src.now) × (at + n ≤ length out.old) }
-    ensures { out.new ≡ sets out.old at (take n (drop from src.now)) }
-{
-    let mut i: usize = 0;
-    while i < n {
-        out[at + i] = src[from + i];
-        i += 1;
-    }
-}
-
-// The bytes of `src` from `from` up to `to`, as far as they fit. Measuring reads none of them.
-pub fn put_part(src: &[u8], from: usize, to: usize, out: &mut [u8], live: bool, at: usize) -> usize
-    requires { (from ≤ to) × (to ≤ length src.now) }
-    ensures { Wrote live out.old at (part src.now from to) result out.new }
-{
-    if out.len() < at {
-        return out.len() + 1;
-    }
-    let n = to - from;
-    let room = out.len() - at;
-    if n <= room {
-        if live {
-            copy(src, from, n, out, at);
-            return at + n;
+    fn put_all(&mut self, bytes: &[u8]) {
+        let at = self.at;
+        self.at = None;
+        if let Some(at) = at {
+            if at <= self.out.len() && bytes.len() <= self.out.len() - at {
+                let end = at + bytes.len();
+                self.out[at..end].copy_from_slice(bytes);
+                self.at = Some(end);
+            }
         }
-        return at + n;
     }
-    if live {
-        copy(src, from, room, out, at);
-        return out.len() + 1;
-    }
-    out.len() + 1
 }
 
-// Most settings have one byte: a call of `copy` would cost more than this loop.
-pub fn put_setting(s: Setting, out: &mut [u8], live: bool, at: usize) -> usize
-    requires { s.len ≤ setting_max }
-    ensures { Wrote live out.old at (text_of s) result out.new }
+// ---- settings
+
+pub fn newline<S: Sink>(options: &FormatOptions, sink: &mut S)
+    ensures { S.puts sink.old (text_of options.now.newline) sink.new }
 {
-    let bytes = s.bytes;
-    let len = s.len;
-    let mut at = at;
-    let mut i: usize = 0;
-    while i < len {
-        at = put(out, live, at, bytes[i]);
-        i += 1;
+    sink.put_all(options.newline.text());
+}
+
+pub fn add_indent<S: Sink>(options: &FormatOptions, n: usize, sink: &mut S)
+    ensures { S.puts sink.old (add_indent (settings_of options.now) n) sink.new }
+{
+    for _ in 0..n {
+        sink.put_all(options.indentation.text());
     }
-    at
-}
-
-pub fn newline(o: FormatOptions, out: &mut [u8], live: bool, at: usize) -> usize
-    requires { Short o }
-    ensures { Wrote live out.old at (text_of o.newline) result out.new }
-{
-    let s = o.newline;
-    put_setting(s, out, live, at)
-}
-
-pub fn add_indent(o: FormatOptions, n: usize, out: &mut [u8], live: bool, at: usize) -> usize
-    requires { Short o }
-    ensures { Wrote live out.old at (add_indent (settings_of o) n) result out.new }
-{
-    let s = o.indentation;
-    let mut at = at;
-    let mut k: usize = 0;
-    while k < n {
-        at = put_setting(s, out, live, at);
-        k += 1;
-    }
-    at
-}
-
-// A record's text: its bytes, and of a variant its name.
-pub fn put_text(
-    text: &[u8],
-    table: &[u32],
-    i: usize,
-    out: &mut [u8],
-    live: bool,
-    at: usize,
-) -> usize
-    requires { Within text.now table.now i }
-    ensures { Wrote live out.old at (text_at text.now table.now i) result out.new }
-{
-    let from = word(table, i, 1);
-    let to = word(table, i, 2);
-    put_part(text, from, to, out, live, at)
 }

@@ -1,22 +1,25 @@
+use Rattle.std.specs.Prelude.{Option, None, Some, is_some}
 -- A reader's places: it may stand where it starts and behind each token; and counting the tokens. Assumes nothing.
 use mathlib.Core.Path.{◌≡◌, refl, sym, ap, ap₂, subst, ◌∙◌}
 use mathlib.Core.Bool.{Bool, true, false}
 use mathlib.Core.List.{List, [], ◌∷◌}
-use mathlib.Core.Option.{Option, some}
 use Prim.Native.Nat.{ℕ, ◌+◌, ◌≤◌, ◌<◌}
 use native.Mathlib.Nat.{zero-add}
 use native.Mathlib.Omega.{arith}
 use lib.ListN.{length, drop_of_length-le}
 use borrow.Author.Tests.{eq-eqb, ne_eqb}
 use Rattle.eon_spec.specs.Utf8.{is_utf8, well_formed_len, Boundary, chars, chars_from}
+use Rattle.eon_spec.specs.declared.token_kind.TokenKind.{TokenKind}
+use Rattle.eon_spec.specs.declared.token_kind.TokenKind.TheVariants.{Invalid}
 use Rattle.eon_spec.specs.Token.{Token, kind_number, tokens, tokens_from, token_from}
 use Rattle.eon_spec.specs.Parse.{refusal, span_of}
 use Rattle.eon_spec.specs.Calls.{Outcome, done, refused_with, place}
 use Rattle.eon_laws.proofs.Checked.{checked_long, checked_bad, checked_good}
-use Rattle.eon_token.specs.Placed.{placed_at, tokens_at, kind_of, token_of}
+use Rattle.eon_token.specs.Placed.{placed_at, tokens_at, token_of, kind_in}
 use Rattle.eon_token.specs.declared.token_kind.PlacedToken.{PlacedToken}
 use Rattle.eon_token.proofs.Text.{boundary_start}
-use Rattle.eon_token.proofs.Laws.{kind_le, number_of, end_boundary, tokens_start, tokens_none, tokens_some}
+use Rattle.eon_token.proofs.KindCodes.{kind_same}
+use Rattle.eon_token.proofs.Laws.{end_boundary, tokens_start, tokens_none, tokens_some}
 use Rattle.eon_reader.specs.Read.{Stands, ended, begins, start_of, end_token, first_token, first_invalid, stray_or, counted, count_call}
 
 module _ (s : List ℕ) where
@@ -75,14 +78,14 @@ unfolding first_invalid
 from_end n = ap done (omega arith)
 
 module _ (n : ℕ) (t : Token) (ts : List Token) where
-  from_stray : kind_number t.kind ≡ 0 → refused_with (refusal 3 (span_of t)) ≡ counted_from n (t ∷ ts)
+  from_stray : t.kind ≡ Invalid → refused_with (refusal 3 (span_of t)) ≡ counted_from n (t ∷ ts)
   unfolding first_invalid
-  from_stray k = let f : first_invalid (t ∷ ts) ≡ some t = rw (eq-eqb (kind_number t.kind) 0 k, first_invalid) in ap (λ (o : Option Token). stray_or o (n + length (t ∷ ts))) (sym f)
+  from_stray k = let f : first_invalid (t ∷ ts) ≡ Some t = rw (eq-eqb (kind_number t.kind) 0 (ap kind_number k), first_invalid) in ap (λ (o : Option Token). stray_or o (n + length (t ∷ ts))) (sym f)
 
-  from_more : (kind_number t.kind ≡ 0 → ⊥) → counted_from (n + 1) ts ≡ counted_from n (t ∷ ts)
+  from_more : (t.kind ≡ Invalid → ⊥) → counted_from (n + 1) ts ≡ counted_from n (t ∷ ts)
   unfolding first_invalid
   from_more k =
-      let f : first_invalid (t ∷ ts) ≡ first_invalid ts = rw (ne_eqb (kind_number t.kind) 0 k, first_invalid) in
+      let f : first_invalid (t ∷ ts) ≡ first_invalid ts = rw (ne_eqb (kind_number t.kind) 0 (λ z. k (kind_same t.kind Invalid z)), first_invalid) in
       let l : n + 1 + length ts ≡ n + length (t ∷ ts) = omega arith in
       ap₂ stray_or (sym f) l
 
@@ -108,18 +111,19 @@ module _ (s : List ℕ) where
   makes_start = from_start (tokens_at s 0 false) ∙ ap counted (sym (tokens_start s))
 
   module _ (u : is_utf8 s ≡ true) (at : ℕ) (b : Boundary s at) (n : ℕ) (w : Makes at n) (r : PlacedToken) (e : r ≡ placed_at s at) where
-    pub counts_all : r.kind ≡ 16 → done n ≡ counted (tokens s)
+    pub counts_all : r.kind ≡ None → done n ≡ counted (tokens s)
     counts_all k = from_end n ∙ ap (counted_from n) (sym (tokens_none s u at b r e false k)) ∙ w
 
     -- a token that is not the end
-    module _ (k : r.kind ≡ 16 → ⊥) where
-      kind_is : kind_number (kind_of r.kind) ≡ r.kind
-      kind_is =
-          let h : r.kind ≤ 16 = subst (λ (x : PlacedToken). x.kind ≤ 16) (sym e) (kind_le s at) in
-          number_of r.kind (omega (arith, h, k))
+    module _ (k : TokenKind) (z : r.kind ≡ Some k) where
+      kind_is : (token_of s at false r).kind ≡ k
+      kind_is = ap kind_in z
 
-      pub counts_stray : r.kind ≡ 0 → refused_with (refusal 3 (record { start = r.start; end = r.end })) ≡ counted (tokens s)
-      counts_stray z = from_stray n (token_of s at false r) (tokens_at s r.end false) (kind_is ∙ z) ∙ ap (counted_from n) (sym (tokens_some s u at b r e false k)) ∙ w
+      goes : tokens_at s at false ≡ token_of s at false r ∷ tokens_at s r.end false
+      goes = tokens_some s u at b r e false (ap (λ (o : Option TokenKind). is_some o) z)
 
-      pub counts_more : (r.kind ≡ 0 → ⊥) → Makes r.end (n + 1)
-      counts_more z = from_more n (token_of s at false r) (tokens_at s r.end false) (λ y. z (sym kind_is ∙ y)) ∙ ap (counted_from n) (sym (tokens_some s u at b r e false k)) ∙ w
+      pub counts_stray : k ≡ Invalid → refused_with (refusal 3 (record { start = r.start; end = r.end })) ≡ counted (tokens s)
+      counts_stray i = from_stray n (token_of s at false r) (tokens_at s r.end false) (kind_is ∙ i) ∙ ap (counted_from n) (sym goes) ∙ w
+
+      pub counts_more : (k ≡ Invalid → ⊥) → Makes r.end (n + 1)
+      counts_more i = from_more n (token_of s at false r) (tokens_at s r.end false) (λ y. i (sym kind_is ∙ y)) ∙ ap (counted_from n) (sym goes) ∙ w

@@ -1,8 +1,8 @@
 -- Where a reader may stand in a text, where it starts, and what it reads of a text that need not be well-formed.
-use Rattle.std.specs.Prelude.{◌≡◌, true, false, cond, List, [], ◌∷◌, ℕ, length}
-use Rattle.std.proofs.Math.Option.{Option, none, some}
+use Rattle.std.specs.Prelude.{◌≡◌, true, false, cond, List, [], ◌∷◌, ℕ, length, Option, None, Some}
 use Rattle.eon_spec.specs.Utf8.{is_utf8, Boundary}
-use Rattle.eon_spec.specs.Token.{Invalid, is_kind, Token, tokens}
+use Rattle.eon_spec.specs.declared.token_kind.TokenKind.TheVariants.{Invalid}
+use Rattle.eon_spec.specs.Token.{is_kind, Token, tokens}
 use Rattle.eon_spec.specs.Parse.{refusal, span_of}
 use Rattle.eon_spec.specs.Calls.{Outcome, done, refused_with, checked}
 use Rattle.eon_token.specs.Placed.{placed_at}
@@ -18,7 +18,7 @@ unfoldable pub start_of : List ℕ → ℕ
 start_of s = cond (is_utf8 s) 0 (length s)
 
 abbrev pub end_token : List ℕ → PlacedToken
-end_token s = record { kind = 16; start = length s; end = length s }
+end_token s = record { kind = None; start = length s; end = length s }
 
 unfoldable pub first_token : List ℕ → PlacedToken
 first_token s = cond (is_utf8 s) (placed_at s 0) (end_token s)
@@ -29,13 +29,13 @@ second_token s = placed_at s (first_token s).end
 -- ---- counting
 
 unfoldable pub first_invalid : List Token → Option Token
-first_invalid [] = none
-first_invalid (t ∷ ts) = elim (is_kind t.kind Invalid) [ true ↦ some t | false ↦ first_invalid ts ]
+first_invalid [] = None
+first_invalid (t ∷ ts) = elim (is_kind t.kind Invalid) [ true ↦ Some t | false ↦ first_invalid ts ]
 
 -- "3 stray: invalid token; its span"; without one, the number n
 abbrev pub stray_or : Option Token → ℕ → Outcome ℕ
-stray_or none n = done n
-stray_or (some u) n = refused_with (refusal 3 (span_of u))
+stray_or None n = done n
+stray_or (Some u) n = refused_with (refusal 3 (span_of u))
 
 unfoldable pub counted : List Token → Outcome ℕ
 counted ts = stray_or (first_invalid ts) (length ts)

@@ -1,5 +1,5 @@
-// A reader of tokens: it holds a reference to the text, and the place of its next byte. The functions over it are thin:
-// the work is done by `start` and `token_at`, on a plain slice.
+// A reader of tokens: it holds a reference to the text, and the place of its next byte. Its functions are thin: the work is done by
+// `start` and `token_at`, on a plain slice.
 #![tactic(auto)]
 
 ghost use Rattle.std.specs.Prelude.{◌≡◌, true};
@@ -9,28 +9,44 @@ ghost use Rattle.eon_spec.specs.Calls.{outcome_of};
 ghost use Rattle.eon_token.specs.Placed.{placed_at};
 ghost use Rattle.eon_reader.specs.Read.{Stands, start_of, first_token, second_token, counted, count_call};
 
-use eon_spec::{Answer, Refusal};
+use eon_spec::{Reason, Refusal, TokenKind};
 use eon_token::token_kind::{PlacedToken, next_token};
 use eon_utf8::well_formed_len;
 
-// The kinds that are no rule's.
-const END: u32 = 16;
-
-const INVALID: u32 = 0;
-
-// The most bytes of a text that is read, and document 01's refusals.
+// The most bytes of a text that is read.
 const MOST: usize = 65535;
 
-const OVERLONG: u32 = 1;
-
-const GARBLED: u32 = 2;
-
-const STRAY: u32 = 3;
-
+// Callers may make one of any fields, so that where it stands is asked by `next` and not by the type.
 #[derive(Clone, Copy)]
 pub struct Reader<'a> {
     pub text: &'a [u8],
     pub next: usize,
+}
+
+impl<'a> Reader<'a> {
+    pub fn new(text: &'a [u8]) -> Self
+        ensures text { result.text ≡ text.entry }
+        ensures next { result.next ≡ start_of text.now }
+        ensures stands { Stands result.text.now result.next }
+    {
+        Reader {
+            text,
+            next: start(text),
+        }
+    }
+
+    // The next token; the reader then stands behind it. The end of the text is answered again and again, with its place: no Iterator.
+    pub fn next(&mut self) -> PlacedToken
+        requires { Stands self.old.text.now self.old.next }
+        ensures token { result ≡ placed_at self.old.text.now self.old.next }
+        ensures text { self.new.text ≡ self.old.text }
+        ensures next { self.new.next ≡ result.end }
+        ensures stands { Stands self.new.text.now self.new.next }
+    {
+        let token = token_at(self.text, self.next);
+        self.next = token.end;
+        token
+    }
 }
 
 // The text is checked once: a reader of a text that is not well-formed starts at its end.
@@ -50,7 +66,7 @@ pub fn token_at(text: &[u8], at: usize) -> PlacedToken
 {
     if text.len() <= at {
         return PlacedToken {
-            kind: END,
+            kind: None,
             start: text.len(),
             end: text.len(),
         };
@@ -58,79 +74,59 @@ pub fn token_at(text: &[u8], at: usize) -> PlacedToken
     next_token(text, at)
 }
 
-pub fn new<'a>(text: &'a [u8]) -> Reader<'a>
-    ensures { (result.text ≡ text.entry) × (result.next ≡ start_of text.now) × Stands result.text.now result.next }
-{
-    let next = start(text);
-    Reader { text, next }
-}
-
-// The next token; the reader then stands behind it.
-pub fn next<'s, 'a>(r: &'s mut Reader<'a>) -> PlacedToken
-    requires { Stands r.old.text.now r.old.next }
-    ensures { (result ≡ placed_at r.old.text.now r.old.next) × (r.new.text ≡ r.old.text) × (r.new.next ≡ result.end) × Stands r.new.text.now r.new.next }
-{
-    let t = token_at(r.text, r.next);
-    r.next = t.end;
-    t
-}
-
 // The first token of any bytes: the end of the text if they are not well-formed.
 pub fn first(text: &[u8]) -> PlacedToken
     ensures { result ≡ first_token text.now }
 {
-    let mut r = new(text);
-    next(&mut r)
+    Reader::new(text).next()
 }
 
 // The second token of any bytes: a reader is moved on.
 pub fn second(text: &[u8]) -> PlacedToken
     ensures { result ≡ second_token text.now }
 {
-    let mut r = new(text);
-    next(&mut r);
-    next(&mut r)
+    let mut reader = Reader::new(text);
+    reader.next();
+    reader.next()
+}
+
+// How many tokens a text has; refused as overlong, garbled or stray.
+// It costs a pass of the check, a pass of the tokens, and at most five looks for a closing mark that run to the end in vain. Behind
+// an unclosed `"""` no three quotes stand in a row, save the last three of a run of five: two looks at most, and as many for `'''`.
+// A look for a single quote in vain makes an invalid token, which ends the count.
+pub fn count(text: &[u8]) -> Result<usize, Refusal>
+    ensures { outcome_of result ≡ count_call text.now }
+{
+    if MOST < text.len() {
+        return Err(Refusal::new(Reason::Overlong, MOST));
+    }
+    let good = well_formed_len(text);
+    if good != text.len() {
+        return Err(Refusal::new(Reason::Garbled, good));
+    }
+    count_checked(text)
 }
 
 // How many tokens a checked text has, or the first invalid one.
-fn count_checked(text: &[u8]) -> Answer
+fn count_checked(text: &[u8]) -> Result<usize, Refusal>
     requires { is_utf8 text.now ≡ true }
     ensures { outcome_of result ≡ counted (tokens text.now) }
 {
     let mut at = 0;
     let mut n = 0;
     loop {
-        let t = next_token(text, at);
-        if t.kind == END {
-            return Answer::Done(n);
-        }
-        if t.kind == INVALID {
-            return Answer::Refused(Refusal {
-                number: STRAY,
-                start: t.start,
-                end: t.end,
-                expected: 0,
-                found: 0,
+        let token = next_token(text, at);
+        let Some(kind) = token.kind else {
+            return Ok(n);
+        };
+        if kind == TokenKind::Invalid {
+            return Err(Refusal {
+                reason: Reason::Stray,
+                start: token.start,
+                end: token.end,
             });
         }
         n += 1;
-        at = t.end;
+        at = token.end;
     }
-}
-
-// How many tokens a text has; refused by 1, 2 or 3.
-// It costs a pass of the check, a pass of the tokens, and at most five looks for a closing mark that run to the end in vain. Behind
-// an unclosed `"""` no three quotes stand in a row, save the last three of a run of five: two looks at most, and as many for `'''`.
-// A look for a single quote in vain makes an invalid token, which ends the count.
-pub fn count(text: &[u8]) -> Answer
-    ensures { outcome_of result ≡ count_call text.now }
-{
-    if MOST < text.len() {
-        return Answer::Refused(Refusal::new(OVERLONG, MOST));
-    }
-    let good = well_formed_len(text);
-    if good == text.len() {
-        return count_checked(text);
-    }
-    Answer::Refused(Refusal::new(GARBLED, good))
 }

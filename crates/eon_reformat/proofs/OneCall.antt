@@ -1,32 +1,24 @@
 -- Reading and layout in one call: reading into a table of the function's own, and then both memories at once.
 use mathlib.Core.Path.{◌≡◌, refl, sym, ◌∙◌, ap}
 use mathlib.Core.Bool.{Bool, true, false}
-use mathlib.Core.List.{List, [], ◌++◌}
-use Prim.Native.Nat.{ℕ, ◌+◌, ◌*◌, ◌≤◌, ◌<◌}
+use mathlib.Core.List.{List, ◌++◌}
+use Prim.Native.Nat.{ℕ, ◌*◌, ◌≤◌, ◌<◌}
 use native.Mathlib.Omega.{arith}
-use native.Mathlib.Nat.{zero-add}
-use native.Mathlib.Numerals.{add-one}
-use lib.ListN.{length, take, drop, get_or, set, length-take}
-use lib.Seq.{paste-suc, length-take-le}
+use lib.ListN.{length, take, drop, length-take}
 use lib.Dec.{leb, le→leb}
-use Rattle.eon_spec.specs.declared.Refusal.{Refusal}
-use Rattle.eon_spec.specs.declared.Answer.{Answer}
-use Rattle.eon_spec.specs.declared.Answer.TheVariants.{Done, Refused}
+use Rattle.std.specs.Prelude.{Result, Ok, Err}
+use Rattle.eon_spec.specs.Refused.{Refusal, refusal_of}
+use Rattle.eon_spec.specs.declared.refusal.Refusal as refusal
 use Rattle.eon_spec.specs.declared.FormatOptions.{FormatOptions}
 use Rattle.eon_spec.specs.Tree.{TokenTree}
 use Rattle.eon_spec.specs.Records.{tree_records, words}
 use Rattle.eon_spec.specs.Layout.{settings_of, format}
-use Rattle.eon_spec.specs.Calls.{Outcome, done, refused_with, then, nowhere, After, after, written, fill, outcome_of, read_text, read_finished, good_settings, checked_settings, format_call, AfterBoth, after_both, fill_both, reformat_call}
+use Rattle.eon_spec.specs.Calls.{Outcome, done, refused_with, then, nowhere, After, after, written, fill, outcome_of, read_text, read_finished, good_settings, checked_settings, format_call, after_both, fill_both, reformat_call}
 use Rattle.eon_laws.proofs.Facts.{true_of, false_of, le_of}
 use Rattle.eon_laws.proofs.Records.{words_length}
 use Rattle.eon_parse.specs.Call.{count_of}
 use Rattle.eon_table.proofs.Finished.{refusal_done, finished_words}
-use Rattle.eon_parse.proofs.Calls.{long_text}
-use Rattle.eon_format.proofs.Joined.{formatted}
-
--- a step of a copy from the front
-pub copied_more : (to from : List ℕ) (i : ℕ) → i < length to → i < length from → set (take i from ++ drop i to) i (get_or from i 0) ≡ take (i + 1) from ++ drop (i + 1) to
-copied_more to from i h k = rw add-one (simp zero-add at (paste-suc to 0 from i 0 (omega arith) k))
+use Rattle.eon_format.proofs.Answered.{formatted}
 
 same_answer : {A : Type 0} {a b : Outcome A} {m k : List ℕ} → after a m ≡ after b k → a ≡ b
 same_answer {A} e = ap (λ (x : After A). x.answer) e
@@ -35,6 +27,9 @@ same_memory : {A : Type 0} {a b : Outcome A} {m k : List ℕ} → after a m ≡ 
 same_memory {A} e = ap (λ (x : After A). x.memory) e
 
 -- an answer of the code, where its variant is known
+abbrev Answer : Type 0
+Answer = Result ℕ refusal.Refusal
+
 known : {a b : Answer} {m : List ℕ} {x : After ℕ} → a ≡ b → after (outcome_of a) m ≡ x → after (outcome_of b) m ≡ x
 known {m} f e = ap (λ (y : Answer). after (outcome_of y) m) (sym f) ∙ e
 
@@ -42,19 +37,19 @@ known {m} f e = ap (λ (y : Answer). after (outcome_of y) m) (sym f) ∙ e
 
 module _ (s work : List ℕ) (a : Answer) (e : outcome_of a ≡ then (read_text s) count_of) where
   -- reading answers: its table is finished
-  pub read_done : (n : ℕ) → a ≡ Done n → read_finished s work ≡ read_text s → (t : TokenTree) × (read_finished s work ≡ done t) × (n ≡ length (tree_records t))
+  pub read_done : (n : ℕ) → a ≡ Ok n → read_finished s work ≡ read_text s → (t : TokenTree) × (read_finished s work ≡ done t) × (n ≡ length (tree_records t))
   read_done n k h = go (read_text s) h (ap outcome_of (sym k) ∙ e)
     where
       go : (x : Outcome TokenTree) → read_finished s work ≡ x → done n ≡ then x count_of → (t : TokenTree) × (read_finished s work ≡ done t) × (n ≡ length (tree_records t))
       go (refused_with r) f g = refusal_done r n (sym g)
       go (done t) f g = (t, f, cc)
 
-  pub read_refused : (r : Refusal) → a ≡ Refused r → read_text s ≡ refused_with r
-  read_refused r k = go (read_text s) (ap outcome_of (sym k) ∙ e)
+  pub read_refused : (q : refusal.Refusal) → a ≡ Err q → read_text s ≡ refused_with (refusal_of q)
+  read_refused q k = go (read_text s) (ap outcome_of (sym k) ∙ e)
     where
-      go : (x : Outcome TokenTree) → refused_with r ≡ then x count_of → x ≡ refused_with r
-      go (refused_with q) g = ap refused_with cc
-      go (done t) g = refusal_done r (length (tree_records t)) g
+      go : (x : Outcome TokenTree) → refused_with (refusal_of q) ≡ then x count_of → x ≡ refused_with (refusal_of q)
+      go (refused_with p) g = ap refused_with cc
+      go (done t) g = refusal_done (refusal_of q) (length (tree_records t)) g
 
 -- ---- refusals before layout
 
@@ -65,17 +60,6 @@ settings_first s table o out r e g = rw (g, checked_settings, e)
 pub text_second : (s table : List ℕ) (o : FormatOptions) (out : List ℕ) (r : Refusal) → read_text s ≡ refused_with r → good_settings o ≡ true → after_both (refused_with r) table out ≡ reformat_call s table o out
 unfolding reformat_call checked_settings fill_both
 text_second s table o out r e g = rw (g, checked_settings, e)
-
--- an overlong text is refused as its beginning is
-pub overlong : (s table : List ℕ) (o : FormatOptions) (out : List ℕ) (x : AfterBoth) → 65536 < length s → x ≡ reformat_call (take 65536 s) table o out → x ≡ reformat_call s table o out
-overlong s table o out x h e = e ∙ go (good_settings o) refl
-  where
-    long : 65535 < length (take 65536 s)
-    long = omega (arith, length-take-le 65536 s (omega arith))
-
-    go : (b : Bool) → good_settings o ≡ b → reformat_call (take 65536 s) table o out ≡ reformat_call s table o out
-    go true g = sym (text_second (take 65536 s) table o out _ (long_text (take 65536 s) [] long) g) ∙ text_second s table o out _ (long_text s [] (omega arith)) g
-    go false g = sym (settings_first (take 65536 s) table o out _ refl g) ∙ settings_first s table o out _ refl g
 
 -- ---- layout by a finished table
 
@@ -127,10 +111,10 @@ module _ (s work table : List ℕ) (o : FormatOptions) (out : List ℕ) (n : ℕ
   pub table_short : (r : Refusal) → r ≡ nowhere 14 → length table < 5 * n → after_both (refused_with r) table out ≡ reformat_call s table o out
   table_short r e h = rw e (sym (no_table table out its_words its_bytes (omega (arith, five))) ∙ both)
 
-  pub out_short : (a : Answer) (r : Refusal) (out' : List ℕ) → 5 * n ≤ length table → a ≡ Refused r → after (outcome_of a) out' ≡ format_call s work o out → after_both (refused_with r) table out' ≡ reformat_call s table o out
-  out_short a r out' h k e = out_refused table out its_words its_bytes (omega (arith, five)) r out' (known k e ∙ sym (formatted s work o out i.0 g i.1)) ∙ both
+  pub out_short : (a : Answer) (q : refusal.Refusal) (out' : List ℕ) → 5 * n ≤ length table → a ≡ Err q → after (outcome_of a) out' ≡ format_call s work o out → after_both (refused_with (refusal_of q)) table out' ≡ reformat_call s table o out
+  out_short a q out' h k e = out_refused table out its_words its_bytes (omega (arith, five)) (refusal_of q) out' (known k e ∙ sym (formatted s work o out i.0 g i.1)) ∙ both
 
-  pub both_written : (a : Answer) (m : ℕ) (out' table' : List ℕ) → 5 * n ≤ length table → a ≡ Done m → after (outcome_of a) out' ≡ format_call s work o out → table' ≡ take (5 * n) work ++ drop (5 * n) table
+  pub both_written : (a : Answer) (m : ℕ) (out' table' : List ℕ) → 5 * n ≤ length table → a ≡ Ok m → after (outcome_of a) out' ≡ format_call s work o out → table' ≡ take (5 * n) work ++ drop (5 * n) table
       → after_both (done m) table' out' ≡ reformat_call s table o out
   both_written a m out' table' h k e f =
       let x : table' ≡ written its_words table = f ∙ rw (← five, (finished_words s work i.0 i.1).1) in

@@ -1,8 +1,8 @@
+use Rattle.std.specs.Prelude.{Option, None, Some}
 -- The comparison of record tables says whether two trees without comments are equal, spans aside.
 use mathlib.Core.Path.{◌≡◌, refl, sym, ◌∙◌, ap}
 use mathlib.Core.Bool.{true, false}
 use mathlib.Core.List.{List, [], ◌∷◌, ◌++◌, append-nil, append_assoc}
-use mathlib.Core.Option.{Option, none, some}
 use Prim.Native.Nat.{ℕ, suc}
 use native.Mathlib.Omega.{arith}
 use lib.ListN.{length}
@@ -87,7 +87,7 @@ mutual
           | true ↦ numberᵛ b
           | false ↦ elim (eqb k 3) [
             | true ↦ stringᵛ b
-            | false ↦ elim (eqb k 4) [ true ↦ listᵛ (un_nodes ns) | false ↦ elim (eqb k 5) [ true ↦ mapᵛ (un_pairs ns none) | false ↦ variantᵛ b (un_nodes ns) ] ]
+            | false ↦ elim (eqb k 4) [ true ↦ listᵛ (un_nodes ns) | false ↦ elim (eqb k 5) [ true ↦ mapᵛ (un_pairs ns None) | false ↦ variantᵛ b (un_nodes ns) ] ]
           ]
         ]
       ]
@@ -98,8 +98,8 @@ mutual
 
   un_pairs : Nodes → Option Value → Pairs
   un_pairs noneⁿ waiting = noneᵖ
-  un_pairs (n ∷ⁿ ns) none = un_pairs ns (some (un_node n))
-  un_pairs (n ∷ⁿ ns) (some k) = pairᵖ k (un_node n) (un_pairs ns none)
+  un_pairs (n ∷ⁿ ns) None = un_pairs ns (Some (un_node n))
+  un_pairs (n ∷ⁿ ns) (Some k) = pairᵖ k (un_node n) (un_pairs ns None)
 
 mutual
   unfolding node_of un_node
@@ -116,10 +116,10 @@ mutual
   nodes_back noneᵛ = refl
   nodes_back (v ∷ᵛ vs) = ap (λ (x : Value). x ∷ᵛ un_nodes (nodes_of vs)) (node_back v) ∙ ap (λ (x : Values). v ∷ᵛ x) (nodes_back vs)
 
-  pair_nodes_back : (ps : Pairs) → un_pairs (pair_nodes ps) none ≡ ps
+  pair_nodes_back : (ps : Pairs) → un_pairs (pair_nodes ps) None ≡ ps
   pair_nodes_back noneᵖ = refl
   pair_nodes_back (pairᵖ x y ps) =
-      ap (λ (z : Value). pairᵖ z (un_node (node_of y)) (un_pairs (pair_nodes ps) none)) (node_back x) ∙ ap (λ (z : Value). pairᵖ x z (un_pairs (pair_nodes ps) none)) (node_back y) ∙ ap (λ (z : Pairs). pairᵖ x y z) (pair_nodes_back ps)
+      ap (λ (z : Value). pairᵖ z (un_node (node_of y)) (un_pairs (pair_nodes ps) None)) (node_back x) ∙ ap (λ (z : Value). pairᵖ x z (un_pairs (pair_nodes ps) None)) (node_back y) ∙ ap (λ (z : Pairs). pairᵖ x y z) (pair_nodes_back ps)
 
 module _ (s : List ℕ) where
   around_keys_lem : (k : ℕ) (sp : Span) (e : ℕ) (inside : List Record) (ks : List Key) → keys_of s inside ≡ ks
@@ -131,7 +131,7 @@ module _ (s : List ℕ) where
   three_keys : (a b c : List Record) (x y z : List Key) → keys_of s a ≡ x → keys_of s b ≡ y → keys_of s c ≡ z → keys_of s (a ++ b ++ c) ≡ x ++ (y ++ z)
   three_keys a b c x y z p q r = keys_of_append s (a ++ b) c ∙ rw (keys_of_append s a b, p, q, r) (append_assoc x y z)
 
-  tree_keys_eq : (sp : Span) (v : TokenValue) → keys_of s (tree_records (tree sp [] v none)) ≡ keys_of s (value_records sp v)
+  tree_keys_eq : (sp : Span) (v : TokenValue) → keys_of s (tree_records (tree sp [] v None)) ≡ keys_of s (value_records sp v)
   unfolding tree_records
   tree_keys_eq sp v = ap (keys_of s) (append-nil (value_records sp v))
 
@@ -151,13 +151,13 @@ module _ (s : List ℕ) where
     trees_keys : {ts : TokenTrees} {vs : Values} → AreValues ts vs → AllLeaves (TextLeaf s) ts → keys_of s (trees_records ts) ≡ all_keys (nodes_of vs)
     trees_keys are_none l = refl
     trees_keys (are_more {s = sp} {v = v} {w = w} {ts = ts} {vs = vs} i a) l =
-        keys_of_append s (tree_records (tree sp [] v none)) (trees_records ts)
+        keys_of_append s (tree_records (tree sp [] v None)) (trees_records ts)
         ∙ ap (λ (x : List Key). x ++ keys_of s (trees_records ts)) (tree_keys_eq sp v ∙ value_keys i sp l.0) ∙ ap (λ (x : List Key). keys (node_of w) ++ x) (trees_keys a l.1)
 
     pairs_keys_lem : {kvs : KeyValues} {ps : Pairs} → ArePairs kvs ps → PairsLeaves (TextLeaf s) kvs → keys_of s (pairs_records kvs) ≡ all_keys (pair_nodes ps)
     pairs_keys_lem are_no_pairs l = refl
     pairs_keys_lem (are_more_pairs {s = sp} {t = tp} {k = k} {v = v} {x = x} {y = y} {kvs = kvs} {ps = ps} i j a) l =
-        three_keys (tree_records (tree sp [] k none)) (tree_records (tree tp [] v none)) (pairs_records kvs) (keys (node_of x)) (keys (node_of y)) (all_keys (pair_nodes ps))
+        three_keys (tree_records (tree sp [] k None)) (tree_records (tree tp [] v None)) (pairs_records kvs) (keys (node_of x)) (keys (node_of y)) (all_keys (pair_nodes ps))
         (tree_keys_eq sp k ∙ value_keys i sp l.0) (tree_keys_eq tp v ∙ value_keys j tp l.1) (pairs_keys_lem a l.2)
 
   tree_keys : {t : TokenTree} {w : Value} → IsTree t w → TreeLeaves (TextLeaf s) t → keys_of s (tree_records t) ≡ keys (node_of w)

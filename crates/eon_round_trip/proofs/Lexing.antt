@@ -9,7 +9,8 @@ use lib.Seq.{take-append_seam, drop-append_seam}
 use lib.Dec.{eqb}
 use Rattle.eon_spec.specs.Utf8.{Character, chars, chars_from, char_len, joined, well_formed_len, well_formed_from}
 use Rattle.eon_laws.proofs.Utf8.{chars_append, chars_concat, well_formed_append}
-use Rattle.eon_spec.specs.Token.{TokenKind, Token, tokens_from, longest_rule, rules}
+use Rattle.eon_spec.specs.declared.token_kind.TokenKind.{TokenKind}
+use Rattle.eon_spec.specs.Token.{Token, tokens_from, longest_rule, rules}
 use Rattle.eon_laws.proofs.Token.{tokens_step}
 use Rattle.eon_round_trip.proofs.Pieces.{Piece, blank, word, flatten, placed_tokens}
 use Rattle.eon_laws.proofs.Word.{Begins, IsWord}

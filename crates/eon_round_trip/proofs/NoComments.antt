@@ -1,8 +1,8 @@
+use Rattle.std.specs.Prelude.{Option, None, Some}
 -- A tree has no comments exactly if its table has no record of kinds 7 to 9.
 use mathlib.Core.Path.{◌≡◌, refl, sym, ◌∙◌, ap}
 use mathlib.Core.Bool.{Bool, true, false, ◌&&◌, not}
 use mathlib.Core.List.{List, [], ◌∷◌, ◌++◌}
-use mathlib.Core.Option.{Option, none, some}
 use Rattle.eon_spec.specs.Base.{within}
 use Rattle.eon_spec.specs.Tree.{Span, Slice, TokenTree, TokenValue, TokenTrees, KeyValues, tree, identifier, number, quoted_string, list_of, map_of, variant_of, no_trees, ◌∷ᵗ◌, no_pairs, pair}
 use Rattle.eon_spec.specs.Records.{Record, comments, suffix, tree_records, value_records, trees_records, pairs_records}
@@ -53,8 +53,8 @@ closing_free [] = refl
 closing_free (c ∷ p) = refl
 
 suffix_free : (x : Option Slice) → no_comment_records (suffix x) ≡ is_none x
-suffix_free none = refl
-suffix_free (some c) = refl
+suffix_free None = refl
+suffix_free (Some c) = refl
 
 inside_free : (a : List Record) (cl : List Slice) (b : Bool) → no_comment_records a ≡ b → no_comment_records (a ++ comments 9 cl) ≡ is_empty cl && b
 inside_free a cl b e = append_free a (comments 9 cl) ∙ rw (e, closing_free cl) (and_comm b (is_empty cl))

@@ -7,7 +7,9 @@ use lib.ListN.{length}
 use Rattle.eon_laws.proofs.Facts.{either}
 use Rattle.eon_spec.specs.Utf8.{Character, chars, chars_from, char_len, well_formed_len, well_formed_from}
 use Rattle.eon_spec.specs.Regex.{deriv, longest}
-use Rattle.eon_spec.specs.Token.{TokenKind, OpenList, CloseList, OpenBrace, CloseBrace, OpenParen, CloseParen, Colon, Comma, Identifier, Number, rules, longest_rule}
+use Rattle.eon_spec.specs.declared.token_kind.TokenKind.{TokenKind}
+use Rattle.eon_spec.specs.declared.token_kind.TokenKind.TheVariants.{OpenList, CloseList, OpenBrace, CloseBrace, OpenParen, CloseParen, Colon, Comma, Identifier, Number}
+use Rattle.eon_spec.specs.Token.{rules, longest_rule}
 use Rattle.eon_round_trip.proofs.Plain.{Value, Values, Pairs, identifierᵛ, numberᵛ, stringᵛ, listᵛ, mapᵛ, variantᵛ, noneᵛ, ◌∷ᵛ◌, noneᵖ, pairᵖ, one_lineᵛ}
 use Rattle.eon_round_trip.proofs.Pieces.{Piece, blank, word, flatten, string_kind, tabs, line_end, closing, closing_brace, opening_paren, closing_paren, colon, value_p, one_line_p, more_p, lines_p, pairs_p, inside_p, sole_p, shared_p, root_p}
 use Rattle.eon_laws.proofs.Word.{Begins, IsWord}

@@ -5,7 +5,9 @@ use Prim.Native.Nat.{ℕ, zero, suc, ◌+◌}
 use lib.ListN.{length}
 use lib.Dec.{eqb}
 use Rattle.eon_spec.specs.Utf8.{chars}
-use Rattle.eon_spec.specs.Token.{TokenKind, OpenList, CloseList, OpenBrace, CloseBrace, OpenParen, CloseParen, Colon, Comma, Identifier, Number, Token, longest_rule, rules}
+use Rattle.eon_spec.specs.declared.token_kind.TokenKind.{TokenKind}
+use Rattle.eon_spec.specs.declared.token_kind.TokenKind.TheVariants.{OpenList, CloseList, OpenBrace, CloseBrace, OpenParen, CloseParen, Colon, Comma, Identifier, Number}
+use Rattle.eon_spec.specs.Token.{Token, longest_rule, rules}
 use Rattle.eon_round_trip.proofs.Plain.{Value, Values, Pairs, identifierᵛ, numberᵛ, stringᵛ, listᵛ, mapᵛ, variantᵛ, noneᵛ, ◌∷ᵛ◌, noneᵖ, pairᵖ, one_lineᵛ}
 
 pub data Piece : Type 0 where

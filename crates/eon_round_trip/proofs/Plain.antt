@@ -1,8 +1,8 @@
+use Rattle.std.specs.Prelude.{None}
 -- Trees without comments and spans.
 use mathlib.Core.Path.{◌≡◌, refl, ap}
 use mathlib.Core.Bool.{Bool, true, false, ◌&&◌, ◌||◌, not}
 use mathlib.Core.List.{List, []}
-use mathlib.Core.Option.{none}
 use Prim.Native.Nat.{ℕ, suc, ◌+◌}
 use lib.ListN.{length}
 use lib.Dec.{ltb, leb}
@@ -42,14 +42,14 @@ mutual
 
   pub data AreValues : TokenTrees → Values → Type 0 where
     are_none : AreValues no_trees noneᵛ
-    are_more : {s : Span} {v : TokenValue} {w : Value} {ts : TokenTrees} {vs : Values} → IsValue v w → AreValues ts vs → AreValues (tree s [] v none ∷ᵗ ts) (w ∷ᵛ vs)
+    are_more : {s : Span} {v : TokenValue} {w : Value} {ts : TokenTrees} {vs : Values} → IsValue v w → AreValues ts vs → AreValues (tree s [] v None ∷ᵗ ts) (w ∷ᵛ vs)
 
   pub data ArePairs : KeyValues → Pairs → Type 0 where
     are_no_pairs : ArePairs no_pairs noneᵖ
-    are_more_pairs : {s t : Span} {k v : TokenValue} {x y : Value} {kvs : KeyValues} {ps : Pairs} → IsValue k x → IsValue v y → ArePairs kvs ps → ArePairs (pair (tree s [] k none) (tree t [] v none) kvs) (pairᵖ x y ps)
+    are_more_pairs : {s t : Span} {k v : TokenValue} {x y : Value} {kvs : KeyValues} {ps : Pairs} → IsValue k x → IsValue v y → ArePairs kvs ps → ArePairs (pair (tree s [] k None) (tree t [] v None) kvs) (pairᵖ x y ps)
 
 pub data IsTree : TokenTree → Value → Type 0 where
-  is_tree : {s : Span} {v : TokenValue} {w : Value} → IsValue v w → IsTree (tree s [] v none) w
+  is_tree : {s : Span} {v : TokenValue} {w : Value} → IsValue v w → IsTree (tree s [] v None) w
 
 -- the rule for one line
 abbrev pub emptyᵛ : Values → Bool

@@ -1,11 +1,13 @@
+use Rattle.std.specs.Prelude.{None, Some}
 -- The premises of demand 3 on a tree, and what they make of it: a value without comments that is ready to be written and read back.
 use mathlib.Core.Path.{◌≡◌, refl, subst}
 use mathlib.Core.Bool.{Bool, true, false, ◌&&◌}
 use mathlib.Core.List.{List, [], ◌∷◌}
-use mathlib.Core.Option.{none, some}
 use Prim.Native.Nat.{ℕ, zero, suc, pred, ◌≤◌}
 use native.Mathlib.Omega.{arith}
-use Rattle.eon_spec.specs.Token.{TokenKind, Invalid, is_kind}
+use Rattle.eon_spec.specs.declared.token_kind.TokenKind.{TokenKind}
+use Rattle.eon_spec.specs.declared.token_kind.TokenKind.TheVariants.{Invalid}
+use Rattle.eon_spec.specs.Token.{is_kind}
 use Rattle.eon_spec.specs.Tree.{Span, TokenTree, TokenValue, TokenTrees, KeyValues, tree, identifier, number, quoted_string, list_of, map_of, variant_of, no_trees, ◌∷ᵗ◌, no_pairs, pair}
 use Rattle.eon_spec.specs.Layout.{no_values}
 use Rattle.eon_spec.specs.Runs.{every_variant, every_variant_in, every_variant_of, every_variant_of_pairs, holds_value, fits_or_holds_one, height, height_in, height_of, height_of_pairs, depth}
@@ -29,8 +31,8 @@ mutual
   unfolding plain free_tree
 
   pub tree_plain : (t : TokenTree) → free_tree t ≡ true → IsTree t (plain t)
-  tree_plain (tree s [] v none) e = is_tree (value_plain v e)
-  tree_plain (tree s [] v (some c)) e = clash e refl
+  tree_plain (tree s [] v None) e = is_tree (value_plain v e)
+  tree_plain (tree s [] v (Some c)) e = clash e refl
   tree_plain (tree s (c ∷ p) v x) e = clash e refl
 
   value_plain : (v : TokenValue) → free_in v ≡ true → IsValue v (plain_value v)

@@ -1,14 +1,15 @@
+use Rattle.std.specs.Prelude.{None}
 -- Reading the tokens of a written tree gives the tree back.
 use mathlib.Core.Path.{◌≡◌, refl, ◌∙◌, ap}
 use mathlib.Core.Bool.{Bool, true, false, ◌||◌}
 use mathlib.Core.List.{List, [], ◌∷◌}
-use mathlib.Core.Option.{none}
 use Prim.Native.Nat.{ℕ, zero, suc, ◌+◌, ◌<◌}
 use native.Mathlib.Omega.{arith}
 use native.Mathlib.Nat.{not-suc-le-zero}
 use lib.ListN.{length}
 use Rattle.eon_laws.proofs.Facts.{clash, either}
-use Rattle.eon_spec.specs.Token.{CloseList, CloseBrace, CloseParen, Colon, Comma, Identifier, Number, is_kind}
+use Rattle.eon_spec.specs.declared.token_kind.TokenKind.TheVariants.{CloseList, CloseBrace, CloseParen, Colon, Comma, Identifier, Number}
+use Rattle.eon_spec.specs.Token.{is_kind}
 use Rattle.eon_spec.specs.Tree.{Span, TokenTree, TokenTrees, tree, identifier, number, map_of}
 use Rattle.eon_spec.specs.Parse.{Cursor, behind, rest, refused, Reader, list_contents, map_contents, list_inside, map_inside, consume_token, value_of, value_at, inside_at, mismatch, parsed, none_is_left, top_list, parse_top}
 use Rattle.eon_laws.proofs.Parse.{inside_at_good}
@@ -52,7 +53,7 @@ closes_paren = record { after = record { no_comment = refl; no_paren = refl }; n
 
 module _ (len : ℕ) where
   fewer_left : (d : ℕ) (c : Cursor) (k : List Piece) (w : Value) (b : Back k w (inside_at len d c)) → length (placed_tokens b.at b.nl k) < length (rest c)
-  fewer_left d c k w b = fewer (length (rest c)) (tree b.place [] b.val none) (behind b.last (placed_tokens b.at b.nl k)) (inside_at len d c) b.eq (inside_at_good len d c)
+  fewer_left d c k w b = fewer (length (rest c)) (tree b.place [] b.val None) (behind b.last (placed_tokens b.at b.nl k)) (inside_at len d c) b.eq (inside_at_good len d c)
 
   shared_starts : (v : Value) (n : ℕ) (k : List Piece) → is_containerᵛ v ≡ true → Starts (head_kind (shared_p n v k))
   unfolding shared_p
@@ -204,7 +205,7 @@ module _ (len : ℕ) where
       rw (comments_here ps at nl l st.no_comment, map_contents, at_end_here ps at nl l ∙ st.no_end, comments_here ps at nl l st.no_comment, b.eq)
 
   one_of : (ts : TokenTrees) (v : Value) → AreValues ts (v ∷ᵛ noneᵛ) → (t : TokenTree) × (top_list len ts [] ≡ t) × IsTree t v
-  one_of ts v (are_more {s = s} {v = x} i are_none) = (tree s [] x none, refl, is_tree i)
+  one_of ts v (are_more {s = s} {v = x} i are_none) = (tree s [] x None, refl, is_tree i)
 
   abbrev pub RootBack : Value → Type 0
   RootBack v = (t : TokenTree) × (parse_top len (placed_tokens 0 false (root_p v)) ≡ parsed t) × IsTree t v
@@ -235,5 +236,5 @@ module _ (len : ℕ) where
   root_back (listᵛ vs) r = one_root (listᵛ vs) r
   root_back (mapᵛ ps) r =
       let m = pairs_back ps 64 0 [] (suc (length (placed_tokens 0 false (pairs_p 0 ps [])))) 0 false start_span r closes (omega arith) in
-      (tree (record { start = 0; end = len }) [] (map_of m.vals []) none, rw m.eq, is_tree (is_map m.same))
+      (tree (record { start = 0; end = len }) [] (map_of m.vals []) None, rw m.eq, is_tree (is_map m.same))
   root_back (variantᵛ b vs) r = one_root (variantᵛ b vs) r

@@ -1,15 +1,17 @@
+use Rattle.std.specs.Prelude.{None}
 -- How the reader goes over the tokens of pieces, step by step.
 use mathlib.Core.Path.{◌≡◌, refl, sym, ◌∙◌}
 use mathlib.Core.Bool.{Bool, true, false, ◌||◌}
 use mathlib.Core.List.{List, [], ◌∷◌}
-use mathlib.Core.Option.{none}
 use Prim.Native.Nat.{ℕ, zero, suc, ◌+◌, ◌<◌}
 use native.Mathlib.Nat.{not-suc-le-zero}
 use lib.ListN.{length}
 use lib.Dec.{eqb}
 use Rattle.eon_laws.proofs.Facts.{nor_left, nor_right}
 use Rattle.eon_spec.specs.Base.{elem}
-use Rattle.eon_spec.specs.Token.{TokenKind, Comment, OpenList, CloseList, OpenBrace, OpenParen, Comma, kind_number, is_kind, Token}
+use Rattle.eon_spec.specs.declared.token_kind.TokenKind.{TokenKind}
+use Rattle.eon_spec.specs.declared.token_kind.TokenKind.TheVariants.{Comment, OpenList, CloseList, OpenBrace, OpenParen, Comma}
+use Rattle.eon_spec.specs.Token.{kind_number, is_kind, Token}
 use Rattle.eon_spec.specs.Tree.{Span, TokenTree, TokenValue, TokenTrees, KeyValues, tree, quoted_string, list_of, map_of, variant_of, no_trees, ◌∷ᵗ◌, no_pairs, pair}
 use Rattle.eon_spec.specs.Parse.{Cursor, behind, rest, Read, read, Reader, list_contents, map_contents, list_inside, map_inside, parse_comments, consume_token, string_or_variant, value_of, tree_behind, tree_with, at_end, after_comma, suffix_comment, next_is, skip, TokenList, TokenMap}
 use Rattle.eon_laws.proofs.Parse.{Strict}
@@ -33,7 +35,7 @@ comments_here [] at nl l e = refl
 comments_here (blank b ∷ ps) at nl l e = comments_here ps (at + 1) (nl || eqb b 10) l e
 comments_here (word k b ∷ ps) at nl l e = rw (e, parse_comments)
 
-pub suffix_here : (k : List Piece) (at : ℕ) (nl : Bool) (l : Span) → is_kind (head_kind k) Comment ≡ false → suffix_comment (behind l (placed_tokens at nl k)) ≡ (none, behind l (placed_tokens at nl k))
+pub suffix_here : (k : List Piece) (at : ℕ) (nl : Bool) (l : Span) → is_kind (head_kind k) Comment ≡ false → suffix_comment (behind l (placed_tokens at nl k)) ≡ (None, behind l (placed_tokens at nl k))
 unfolding suffix_comment
 suffix_here [] at nl l e = refl
 suffix_here (blank b ∷ ps) at nl l e = suffix_here ps (at + 1) (nl || eqb b 10) l e
@@ -59,7 +61,7 @@ abbrev pub comma_span : ℕ → Span
 comma_span at = record { start = at; end = at + 1 }
 
 pub comma_there : (s : Span) (v : TokenValue) (k : List Piece) (at : ℕ) (nl : Bool) (l : Span) → is_kind (head_kind k) Comment ≡ false
-    → after_comma (tree s [] v none) (behind l (placed_tokens at nl (comma ∷ k))) ≡ (tree s [] v none, behind (comma_span at) (placed_tokens (at + 1) false k))
+    → after_comma (tree s [] v None) (behind l (placed_tokens at nl (comma ∷ k))) ≡ (tree s [] v None, behind (comma_span at) (placed_tokens (at + 1) false k))
 unfolding after_comma next_is skip
 comma_there s v k at nl l e = rw (suffix_here k (at + 1) false (comma_span at) e)
 
@@ -70,7 +72,7 @@ pub record Back (k : List Piece) (w : Value) (r : Read TokenTree) : Type 0 where
   pub last : Span
   pub at : ℕ
   pub nl : Bool
-  pub eq : r ≡ read (tree place [] val none) (behind last (placed_tokens at nl k))
+  pub eq : r ≡ read (tree place [] val None) (behind last (placed_tokens at nl k))
   pub same : IsValue val w
 
 pub record BackList (k : List Piece) (ws : Values) (r : Read TokenList) : Type 0 where
@@ -150,11 +152,11 @@ module _ (value : Reader) where
   unfolding list_contents
   list_item ps k1 k fuel at nl l w ws st nc b more =
       record {
-        vals = tree b.place [] b.val none ∷ᵗ more.vals;
+        vals = tree b.place [] b.val None ∷ᵗ more.vals;
         last = more.last;
         at = more.at;
         nl = more.nl;
-        eq = rw (comments_here ps at nl l st.no_comment, list_contents, at_end_here ps at nl l ∙ st.no_end, comments_here ps at nl l st.no_comment, b.eq, comma_none (tree b.place [] b.val none) k1 b.at b.nl b.last nc, more.eq);
+        eq = rw (comments_here ps at nl l st.no_comment, list_contents, at_end_here ps at nl l ∙ st.no_end, comments_here ps at nl l st.no_comment, b.eq, comma_none (tree b.place [] b.val None) k1 b.at b.nl b.last nc, more.eq);
         same = are_more b.same more.same;
       }
 
@@ -164,7 +166,7 @@ module _ (value : Reader) where
   unfolding list_contents
   list_comma ps k1 k fuel at nl l w ws st nc b more =
       record {
-        vals = tree b.place [] b.val none ∷ᵗ more.vals;
+        vals = tree b.place [] b.val None ∷ᵗ more.vals;
         last = more.last;
         at = more.at;
         nl = more.nl;
@@ -193,11 +195,11 @@ module _ (value : Reader) where
   unfolding map_contents consume_token
   map_pair ps k1 k2 k fuel at nl l x y ws st nc b c more =
       record {
-        vals = pair (tree b.place [] b.val none) (tree c.place [] c.val none) more.vals;
+        vals = pair (tree b.place [] b.val None) (tree c.place [] c.val None) more.vals;
         last = more.last;
         at = more.at;
         nl = more.nl;
-        eq = rw (comments_here ps at nl l st.no_comment, map_contents, at_end_here ps at nl l ∙ st.no_end, comments_here ps at nl l st.no_comment, b.eq, c.eq, comma_none (tree c.place [] c.val none) k2 c.at c.nl c.last nc, more.eq);
+        eq = rw (comments_here ps at nl l st.no_comment, map_contents, at_end_here ps at nl l ∙ st.no_end, comments_here ps at nl l st.no_comment, b.eq, c.eq, comma_none (tree c.place [] c.val None) k2 c.at c.nl c.last nc, more.eq);
         same = are_more_pairs b.same c.same more.same;
       }
 

@@ -4,7 +4,9 @@ use mathlib.Core.Bool.{true}
 use mathlib.Core.List.{List}
 use Prim.Native.Nat.{ℕ, zero, suc}
 use Rattle.eon_spec.specs.Utf8.{chars}
-use Rattle.eon_spec.specs.Token.{TokenKind, Identifier, Number, longest_rule, rules}
+use Rattle.eon_spec.specs.declared.token_kind.TokenKind.{TokenKind}
+use Rattle.eon_spec.specs.declared.token_kind.TokenKind.TheVariants.{Identifier, Number}
+use Rattle.eon_spec.specs.Token.{longest_rule, rules}
 use Rattle.eon_laws.proofs.Word.{IsString, IsWord}
 use Rattle.eon_round_trip.proofs.Plain.{Value, Values, Pairs, identifierᵛ, numberᵛ, stringᵛ, listᵛ, mapᵛ, variantᵛ, noneᵛ, ◌∷ᵛ◌, noneᵖ, pairᵖ, variant_fits}
 use Rattle.eon_round_trip.proofs.Pieces.{string_kind}

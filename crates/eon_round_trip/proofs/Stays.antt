@@ -10,7 +10,9 @@ use Rattle.eon_spec.specs.Base.{within}
 use Rattle.eon_spec.specs.Utf8.{Character, code_point}
 use Rattle.eon_spec.specs.Regex.{Item, ◌to◌, only, in_class, Regex, never, one_of, none_of, ◌then◌, many, char, text, nullable, deriv}
 use Rattle.eon_laws.proofs.Regex.{derivs, Ends}
-use Rattle.eon_spec.specs.Token.{TokenKind, Invalid, Comment, OpenList, CloseList, OpenBrace, CloseBrace, OpenParen, CloseParen, Colon, Comma, Identifier, Number, DoubleQuotedString, SingleQuotedString, MultilineBasicString, MultilineLiteralString, rules, longest_rule}
+use Rattle.eon_spec.specs.declared.token_kind.TokenKind.{TokenKind}
+use Rattle.eon_spec.specs.declared.token_kind.TokenKind.TheVariants.{Invalid, Comment, OpenList, CloseList, OpenBrace, CloseBrace, OpenParen, CloseParen, Colon, Comma, Identifier, Number, DoubleQuotedString, SingleQuotedString, MultilineBasicString, MultilineLiteralString}
+use Rattle.eon_spec.specs.Token.{rules, longest_rule}
 use Rattle.eon_laws.proofs.Apart.{never_stays, never_ends, dead_nullable, whole_nullable, EndsAll, same_longest, ends_append, all_apart, apart_ends, Own, found_rule}
 use Rattle.eon_round_trip.proofs.Quotes.{one_true, one_false, is_q, long, NoQuote, Quoted, short_ends, long_ends, plain, plain_closes, plain_ended, escaping, escaping_closes, escaping_ended}
 use Rattle.eon_laws.proofs.Word.{IsString, double, single, basic, literal}

@@ -1,8 +1,8 @@
+use Rattle.std.specs.Prelude.{None}
 -- The layout of a tree without comments is its pieces in a row.
 use mathlib.Core.Path.{◌≡◌, refl, sym, ◌∙◌, ap}
 use mathlib.Core.Bool.{Bool, true, false, ◌&&◌}
 use mathlib.Core.List.{List, [], ◌∷◌, ◌++◌, append_assoc, append-nil}
-use mathlib.Core.Option.{none}
 use Prim.Native.Nat.{ℕ, zero, suc}
 use Rattle.eon_laws.proofs.Facts.{clash}
 use Rattle.eon_spec.specs.Tree.{Span, Slice, TokenTree, TokenValue, TokenTrees, KeyValues, tree, list_of, map_of, variant_of, ◌∷ᵗ◌, no_pairs, pair}
@@ -78,7 +78,7 @@ tabs_text : (n : ℕ) (k : List Piece) → flatten (tabs n k) ≡ add_indent def
 tabs_text zero k = refl
 tabs_text (suc n) k = ap (λ s. 9 ∷ s) (tabs_text n k)
 
-gap_none : (first : Bool) (s : Span) (v : TokenValue) → gap defaults first (tree s [] v none) ≡ []
+gap_none : (first : Bool) (s : Span) (v : TokenValue) → gap defaults first (tree s [] v None) ≡ []
 gap_none true s v = refl
 gap_none false s v = refl
 
@@ -151,7 +151,7 @@ list_some ts vs e f one lines n k = go (one_lineᵛ vs) refl
 list_text : {ts : TokenTrees} {vs : Values} → AreValues ts vs → OneText vs ts → LinesText vs ts → ValueText (listᵛ vs) (list_of ts [])
 unfolding value_p value one_lineᵛ
 list_text are_none one lines n k = refl
-list_text (are_more {s = s} {v = v} {w = w} {ts = ts} {vs = vs} i r) one lines n k = list_some (tree s [] v none ∷ᵗ ts) (w ∷ᵛ vs) refl (one_line_same (are_more i r)) one lines n k
+list_text (are_more {s = s} {v = v} {w = w} {ts = ts} {vs = vs} i r) one lines n k = list_some (tree s [] v None ∷ᵗ ts) (w ∷ᵛ vs) refl (one_line_same (are_more i r)) one lines n k
 
 abbrev PairsText : Pairs → KeyValues → Type 0
 PairsText ps kvs = (n : ℕ) (first : Bool) (k : List Piece) → flatten (pairs_p n ps k) ≡ map_content defaults n first kvs ++ flatten k
@@ -177,7 +177,7 @@ map_text : {kvs : KeyValues} {ps : Pairs} → ArePairs kvs ps → PairsText ps k
 unfolding value_p
 map_text are_no_pairs text n k = ap (λ (z : List ℕ). z ++ flatten k) (sym (map_none n))
 map_text (are_more_pairs {s = s} {t = t} {k = u} {v = v} {x = x} {y = y} {kvs = kvs} {ps = ps} i j r) text n k =
-    map_some x y ps (pair (tree s [] u none) (tree t [] v none) kvs) text n k ∙ ap (λ (z : List ℕ). z ++ flatten k) (sym (map_lines n (pair (tree s [] u none) (tree t [] v none) kvs) refl))
+    map_some x y ps (pair (tree s [] u None) (tree t [] v None) kvs) text n k ∙ ap (λ (z : List ℕ). z ++ flatten k) (sym (map_lines n (pair (tree s [] u None) (tree t [] v None) kvs) refl))
 
 -- a variant that fits
 some_values : {ts : TokenTrees} {vs : Values} → AreValues ts vs → variant_fits vs ≡ true → no_values ts ≡ false
@@ -208,13 +208,13 @@ shared_list_text : {ts : TokenTrees} {vs : Values} → AreValues ts vs → one_l
     → flatten (opening ∷ line_end ∷ lines_p (suc n) vs (tabs n (closing ∷ k))) ≡ shared defaults n (list_of ts []) ++ flatten k
 shared_list_text are_none e lines n k = clash (sym one_line_empty) e
 shared_list_text (are_more {s = s} {v = v} {w = w} {ts = ts} {vs = vs} i r) e lines n k =
-    rw (lines (suc n) true (tabs n (closing ∷ k)), tabs_text n (closing ∷ k), shared_list n (tree s [] v none ∷ᵗ ts) refl) (simp append_assoc)
+    rw (lines (suc n) true (tabs n (closing ∷ k)), tabs_text n (closing ∷ k), shared_list n (tree s [] v None ∷ᵗ ts) refl) (simp append_assoc)
 
 shared_map_text : {kvs : KeyValues} {ps : Pairs} → ArePairs kvs ps → one_lineᵛ (mapᵛ ps ∷ᵛ noneᵛ) ≡ false → PairsText ps kvs → (n : ℕ) (k : List Piece)
     → flatten (opening_brace ∷ inside_p n ps (closing_brace ∷ k)) ≡ shared defaults n (map_of kvs []) ++ flatten k
 shared_map_text are_no_pairs e text n k = clash (sym one_line_no_pairs) e
 shared_map_text (are_more_pairs {s = s} {t = t} {k = u} {v = v} {x = x} {y = y} {kvs = kvs} {ps = ps} i j r) e text n k =
-    map_some x y ps (pair (tree s [] u none) (tree t [] v none) kvs) text n k ∙ ap (λ (z : List ℕ). z ++ flatten k) (sym (shared_map n (pair (tree s [] u none) (tree t [] v none) kvs) refl))
+    map_some x y ps (pair (tree s [] u None) (tree t [] v None) kvs) text n k ∙ ap (λ (z : List ℕ). z ++ flatten k) (sym (shared_map n (pair (tree s [] u None) (tree t [] v None) kvs) refl))
 
 -- what stands behind the first of the values on one line
 abbrev tail_text : ℕ → TokenTrees → List ℕ
@@ -256,7 +256,7 @@ mutual
   lines_text (are_more {s = s} {v = v} {w = w} {ts = ts} {vs = vs} i a) (suc m) r n first k =
       tabs_text n (value_p n w (line_end ∷ lines_p n vs k))
       ∙ ap (λ (x : List ℕ). add_indent defaults n ++ x) (value_text i m r.0 n (line_end ∷ lines_p n vs k) ∙ ap (λ (x : List ℕ). value defaults n v ++ 10 ∷ x) (lines_text a (suc m) r.1 n false k))
-      ∙ line_algebra (gap defaults first (tree s [] v none)) (add_indent defaults n) (value defaults n v) (list_content defaults n false ts) (flatten k) (gap_none first s v)
+      ∙ line_algebra (gap defaults first (tree s [] v None)) (add_indent defaults n) (value defaults n v) (list_content defaults n false ts) (flatten k) (gap_none first s v)
 
   pairs_text : {kvs : KeyValues} {ps : Pairs} → ArePairs kvs ps → (m : ℕ) → PairsReady m ps → (n : ℕ) (first : Bool) (k : List Piece) → flatten (pairs_p n ps k) ≡ map_content defaults n first kvs ++ flatten k
   pairs_text are_no_pairs m r n first k = refl
@@ -266,7 +266,7 @@ mutual
       ∙ ap (λ (z : List ℕ). add_indent defaults n ++ z)
       (value_text i m r.0 n (colon ∷ blank 32 ∷ value_p n y (line_end ∷ pairs_p n ps k))
       ∙ ap (λ (z : List ℕ). value defaults n u ++ 58 ∷ 32 ∷ z) (value_text j m r.1 n (line_end ∷ pairs_p n ps k) ∙ ap (λ (z : List ℕ). value defaults n v ++ 10 ∷ z) (pairs_text a (suc m) r.2 n false k)))
-      ∙ pair_algebra (gap defaults first (tree s [] u none)) (add_indent defaults n) (value defaults n u) (value defaults n v) (map_content defaults n false kvs) (flatten k) (gap_none first s u)
+      ∙ pair_algebra (gap defaults first (tree s [] u None)) (add_indent defaults n) (value defaults n u) (value defaults n v) (map_content defaults n false kvs) (flatten k) (gap_none first s u)
 
   sole_text : {ts : TokenTrees} {vs : Values} → AreValues ts vs → (m : ℕ) → AllReady m vs → one_lineᵛ vs ≡ false → sole_container vs ≡ true → (n : ℕ) (k : List Piece) → flatten (sole_p n vs k) ≡ shared_first defaults n ts ++ flatten k
   sole_text are_none m r e f n k = refl

@@ -1,8 +1,8 @@
+use Rattle.std.specs.Prelude.{None}
 -- Demand 3 on a file: what the promise of `two_runs` says of `1 2`, in answers, words and bytes; and lent memory at its edge.
 use mathlib.Core.Path.{◌≡◌, refl}
 use mathlib.Core.Bool.{Bool, true, false}
 use mathlib.Core.List.{List, [], ◌∷◌, ◌++◌}
-use mathlib.Core.Option.{none}
 use Prim.Native.Nat.{ℕ, ◌+◌}
 use native.Mathlib.Omega.{arith}
 use lib.ListN.{replicate}
@@ -17,10 +17,10 @@ use Rattle.eon_rows.proofs.Computing.{reads, writes, compares, bytes}
 -- ---- the file `1 2`, its tree and its words; behind layout they stand elsewhere
 
 abbrev leaf_of : ℕ → ℕ → TokenTree
-leaf_of digit at = tree (record { start = at; end = at + 1 }) [] (number (digit ∷ [])) none
+leaf_of digit at = tree (record { start = at; end = at + 1 }) [] (number (digit ∷ [])) None
 
 abbrev pair_of : ℕ → ℕ → TokenTree
-pair_of a b = tree (record { start = 0; end = 3 }) [] (list_of (leaf_of a 0 ∷ᵗ (leaf_of b 2 ∷ᵗ no_trees)) []) none
+pair_of a b = tree (record { start = 0; end = 3 }) [] (list_of (leaf_of a 0 ∷ᵗ (leaf_of b 2 ∷ᵗ no_trees)) []) None
 
 abbrev t12 : TokenTree
 t12 = pair_of 49 50

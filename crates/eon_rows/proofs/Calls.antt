@@ -8,11 +8,16 @@ use lib.ListN.{replicate, take}
 use Rattle.eon_spec.specs.declared.FormatOptions.{FormatOptions}
 use Rattle.eon_spec.specs.declared.Setting.{Setting}
 use Rattle.eon_spec.specs.declared.Which.TheVariants.{Quoted, Scratch}
-use Rattle.eon_spec.specs.declared.Compared.TheVariants as compared
-use Rattle.eon_spec.specs.declared.Unquoted.TheVariants as unquoted
+use Rattle.std.specs.Prelude.{Ok, Err}
+use Rattle.eon_spec.specs.declared.refusal.Refusal as program
+use Rattle.eon_spec.specs.declared.refusal.Reason.{Reason}
+use Rattle.eon_spec.specs.declared.refusal.Reason.TheVariants.{Overlong, Garbled, Stray, TooDeep, MissingValue, UnbalancedList, UnbalancedBrace, UnbalancedParen, Nameless, NoValue, Mismatch, CutOff, Surplus, NoSpace, Stale, BadSettings, NoOpeningQuote, NoClosingQuote, LineBreak, EndsInBackslash, UnknownEscape, NoBrace, NinthDigit, ForeignCharacter, NotClosed, NoScalarValue, NoByte, NoPaths}
+use Rattle.eon_spec.specs.declared.token_kind.TokenKind.TheVariants.{CloseList, Number}
+use Rattle.eon_spec.specs.Refused.{refusal_of, number_of}
 use Rattle.eon_spec.specs.Parse.{refusal}
 use Rattle.eon_spec.specs.Layout.{setting, settings_of, defaults, default_options}
-use Rattle.eon_spec.specs.Calls.{done, refused_with, nowhere, place, after, after_both, Part, part_of, read_call, format_call, reformat_call, fill_both, compare_call, checked_settings, unquote_call, show_call, shown_place, compared_outcome, unquoted_outcome}
+use Rattle.eon_spec.specs.declared.Part.{Part}
+use Rattle.eon_spec.specs.Calls.{done, refused_with, nowhere, place, after, after_both, part_of, read_call, format_call, reformat_call, fill_both, compare_call, checked_settings, unquote_call, show_call, shown_place, outcome_of}
 use Rattle.eon_rows.proofs.Computing.{writes, bytes, compares, shows}
 
 -- the words of `1 2` and of `1`
@@ -329,12 +334,26 @@ reformat_refused : reformat_call (bytes "]") (9 ∷ []) default_options (7 ∷ [
 unfolding compares writes reformat_call fill_both checked_settings bytes
 reformat_refused = refl
 
+-- a refusal of the program's at the text's start
+abbrev at_start : Reason → program.Refusal
+at_start r = record { reason = r; start = 0; end = 0 }
+
+-- the papers' numbers, in the order of include/eon.h
+all_reasons : map number_of (Overlong ∷ Garbled ∷ Stray ∷ TooDeep ∷ MissingValue ∷ UnbalancedList ∷ UnbalancedBrace ∷ UnbalancedParen ∷ Nameless ∷ NoValue ∷ Mismatch CloseList Number ∷ CutOff CloseList ∷ Surplus ∷ NoSpace ∷ Stale ∷ BadSettings ∷ NoOpeningQuote ∷ NoClosingQuote ∷ LineBreak ∷ EndsInBackslash ∷ UnknownEscape ∷ NoBrace ∷ NinthDigit ∷ ForeignCharacter ∷ NotClosed ∷ NoScalarValue ∷ NoByte ∷ NoPaths ∷ [])
+    ≡ 1 ∷ 2 ∷ 3 ∷ 4 ∷ 5 ∷ 6 ∷ 7 ∷ 8 ∷ 9 ∷ 10 ∷ 11 ∷ 12 ∷ 13 ∷ 14 ∷ 15 ∷ 16 ∷ 17 ∷ 18 ∷ 19 ∷ 20 ∷ 21 ∷ 22 ∷ 23 ∷ 24 ∷ 25 ∷ 26 ∷ 27 ∷ 28 ∷ []
+all_reasons = refl
+
+-- 11 names both kinds, 12 the expected one, all others none
+kinds_named : map refusal_of (at_start (Mismatch CloseList Number) ∷ at_start (CutOff CloseList) ∷ at_start Stray ∷ [])
+    ≡ record { number = 11; start = 0; end = 0; expected = 3; found = 11 } ∷ record { number = 12; start = 0; end = 0; expected = 3; found = 0 } ∷ nowhere 3 ∷ []
+kinds_named = refl
+
 -- "Where an answer is an enum, a definition gives this paper's number and values for each of its cases": comparison's
-equal_or_not : map compared_outcome (compared.Equal true ∷ compared.Equal false ∷ compared.Refused (nowhere 15) ∷ []) ≡ done true ∷ done false ∷ refused_with (nowhere 15) ∷ []
+equal_or_not : map outcome_of (Ok true ∷ Ok false ∷ Err (at_start Stale) ∷ []) ≡ done true ∷ done false ∷ refused_with (nowhere 15) ∷ []
 equal_or_not = refl
 
 -- "Filling answers which slice, start and length"
-which_start_length : map unquoted_outcome (unquoted.Part Quoted 1 2 ∷ unquoted.Refused (nowhere 14) ∷ []) ≡ done (part_of Quoted 1 2) ∷ refused_with (nowhere 14) ∷ []
+which_start_length : map outcome_of (Ok (part_of Quoted 1 2) ∷ Err (at_start NoSpace) ∷ []) ≡ done (part_of Quoted 1 2) ∷ refused_with (nowhere 14) ∷ []
 which_start_length = refl
 
 -- "or is literal": three single quotes are, with a backslash too

@@ -6,9 +6,10 @@ use Prim.Native.Nat.{ℕ, zero, suc}
 use native.Mathlib.Omega.{arith}
 use lib.ListN.{replicate}
 use Rattle.eon_spec.specs.declared.Found.{Found}
-use Rattle.eon_spec.specs.declared.Refusal.{Refusal}
-use Rattle.eon_spec.specs.declared.Answer.{Answer}
-use Rattle.eon_spec.specs.declared.Answer.TheVariants as answer
+use Rattle.eon_spec.specs.Refused.{Refusal}
+use Rattle.std.specs.Prelude.{Result, Ok, Err}
+use Rattle.eon_spec.specs.declared.refusal.Refusal as program
+use Rattle.eon_spec.specs.declared.refusal.Reason.TheVariants.{NoPaths}
 use Rattle.eon_spec.specs.Parse.{refusal}
 use Rattle.eon_spec.specs.Calls.{refused_with, nowhere}
 use Rattle.eon_spec.specs.Lookup.{none_word, lookup_call, SomeOf, SomeOfEach, IsLookup}
@@ -331,27 +332,30 @@ not_zero e = omega arith
 
 -- ---- "One table of 128 answers, all 'none' at the start"; a refusal hands back all 'none'
 
-abbrev found_by : Answer → List ℕ → Found
+abbrev form_refused : program.Refusal
+form_refused = record { reason = NoPaths; start = 0; end = 0 }
+
+abbrev found_by : Result ℕ program.Refusal → List ℕ → Found
 found_by a ws = record { answer = a; answers = ws }
 
 none_each : (k : ℕ) → SomeOfEach (replicate k []) (replicate k none_word)
 none_each zero = tt
 none_each (suc k) = (refl, none_each k)
 
-none_beside_refusal : IsLookup (refused_with (nowhere 28)) (found_by (answer.Refused (nowhere 28)) (replicate 128 4294967295))
+none_beside_refusal : IsLookup (refused_with (nowhere 28)) (found_by (Err form_refused) (replicate 128 4294967295))
 none_beside_refusal = record { counts = refl; finds = none_each 128 }
 
 -- no entry holds anything else
-not_zero_beside_refusal : IsLookup (refused_with (nowhere 28)) (found_by (answer.Refused (nowhere 28)) (replicate 128 0)) → ⊥
+not_zero_beside_refusal : IsLookup (refused_with (nowhere 28)) (found_by (Err form_refused) (replicate 128 0)) → ⊥
 not_zero_beside_refusal h = let z : ◌≡◌ {A = ℕ} 0 4294967295 = h.finds.0 in omega arith
 
 -- and there are no fewer
-none_missing : IsLookup (refused_with (nowhere 28)) (found_by (answer.Refused (nowhere 28)) []) → ⊥
+none_missing : IsLookup (refused_with (nowhere 28)) (found_by (Err form_refused) []) → ⊥
 none_missing h = h.finds
 
 -- a lookup that is answered is not refused, and counts its steps
-not_refused : (ws : List ℕ) → IsLookup (finds 1 []) (found_by (answer.Refused (nowhere 28)) ws) → ⊥
+not_refused : (ws : List ℕ) → IsLookup (finds 1 []) (found_by (Err form_refused) ws) → ⊥
 not_refused ws h = absurd (let k = h.counts in let z : ◌≡◌ {A = ℕ} 0 1 = cc in omega arith)
 
-steps_counted : (ws : List ℕ) → IsLookup (finds 1 []) (found_by (answer.Done 3) ws) → ⊥
+steps_counted : (ws : List ℕ) → IsLookup (finds 1 []) (found_by (Ok 3) ws) → ⊥
 steps_counted ws h = absurd (let k = h.counts in let z : ◌≡◌ {A = ℕ} 3 1 = cc in omega arith)

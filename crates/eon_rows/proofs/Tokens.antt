@@ -1,10 +1,11 @@
+use Rattle.std.specs.Prelude.{None, Some}
 -- Document 01's "Tokens", by rows: kind, start and end of each token, 0 for an invalid one. The answers are the original's over the printed
 -- rules.
 use mathlib.Core.Path.{◌≡◌, refl}
 use mathlib.Core.Bool.{false}
 use mathlib.Core.List.{[], ◌∷◌}
-use mathlib.Core.Option.{none, some}
-use Rattle.eon_spec.specs.Token.{Comma, token_from}
+use Rattle.eon_spec.specs.declared.token_kind.TokenKind.TheVariants.{Comma}
+use Rattle.eon_spec.specs.Token.{token_from}
 use Rattle.eon_rows.proofs.Computing.{tokens_of, bytes, ◌has_tokens◌}
 
 -- ---- "Kinds 1 to 15 in the enum's order"
@@ -177,10 +178,10 @@ backslash_before_four = refl
 
 -- ---- "The token call": the first token from a position on, with its place in the whole text
 
-token_from_a_position : token_from (bytes "ab ,c") 2 ≡ some (record { kind = Comma; start = 3; end = 4; slice = bytes ","; new_line = false })
+token_from_a_position : token_from (bytes "ab ,c") 2 ≡ Some (record { kind = Comma; start = 3; end = 4; slice = bytes ","; new_line = false })
 unfolding tokens_of token_from bytes
 token_from_a_position = refl
 
-no_token_behind_blanks : token_from (bytes "a ") 1 ≡ none
+no_token_behind_blanks : token_from (bytes "a ") 1 ≡ None
 unfolding tokens_of token_from bytes
 no_token_behind_blanks = refl

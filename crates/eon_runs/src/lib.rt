@@ -1,12 +1,13 @@
-// Calls made in a row, one on what another wrote: the runs of demand 3, and what it says of them.
+// Calls made in a row, one on what another wrote: the runs of demand 3, and what it says of them. A table and its output stay two
+// parameters: a struct of both would need a clause more for each, that it still holds the memory that it was given.
 #![tactic(auto)]
 
-ghost use Rattle.std.specs.Prelude.{◌≡◌, List, ℕ, ◌≤◌, length, take};
+ghost use Rattle.std.specs.Prelude.{◌≡◌};
 ghost use Rattle.eon_spec.specs.Tree.{TokenTree};
 ghost use Rattle.eon_spec.specs.Calls.{after, outcome_of};
 ghost use Rattle.eon_spec.specs.Runs.{Premises, Suffices, wrote, IsRun, IsRow, ShareText};
 
-use eon_spec::{Answer, FormatOptions, Rows, Run, Runs};
+use eon_spec::{FormatOptions, Refusal, Rows, Run, Runs};
 
 // A run: reading, and then layout by the table just filled, under the default settings.
 pub fn run(text: &[u8], table: &mut [u32], out: &mut [u8]) -> Run
@@ -17,19 +18,12 @@ pub fn run(text: &[u8], table: &mut [u32], out: &mut [u8]) -> Run
     Run { read, written }
 }
 
-// How many bytes of an output of that length a layout call wrote.
-fn wrote_len(written: Answer, len: usize) -> usize
-    ensures { (result ≤ len) × ((out : List ℕ) → length out ≡ len → take result out ≡ wrote (after (outcome_of written) out)) }
+// The part of an output that a layout call wrote.
+fn written_part(written: Result<usize, Refusal>, out: &[u8]) -> &[u8]
+    ensures { result.now ≡ wrote (after (outcome_of written) out.now) }
 {
-    match written {
-        Answer::Done(n) => {
-            if n < len {
-                return n;
-            }
-            len
-        }
-        Answer::Refused(r) => 0,
-    }
+    let len = written.unwrap_or(0);
+    &out[..len.min(out.len())]
 }
 
 // Demand 3: the afternoon run on a file, and the evening run on what it wrote.
@@ -43,9 +37,7 @@ pub fn two_runs(
     ensures { IsRow text.now table1.old out1.old table2.old out2.old result table1.new out1.new table2.new out2.new }
 {
     let afternoon = run(text, table1, out1);
-    let written = afternoon.written;
-    let n = wrote_len(written, out1.len());
-    let evening = run(&out1[..n], table2, out2);
+    let evening = run(written_part(afternoon.written, out1), table2, out2);
     Runs { afternoon, evening }
 }
 

@@ -1,16 +1,11 @@
 -- The outcome of each public call in full: its answer, and what the lent memory holds afterwards (document 01, "Refusals at the desk").
 -- "Order: 16, 1, 2, reading (3 to 13), 15, 14. Of two texts, the first's come first." "Every refusal leaves lent memory unchanged."
-use Rattle.std.specs.Prelude.{ℕ, ◌+◌, ◌-◌, Bool, true, false, ◌&&◌, ◌||◌, not, cond, List, [], ◌∷◌, ◌++◌, length, take, drop, ltb, leb, eqb}
-use Rattle.std.proofs.Math.Option.{Option, none, some}
-use Rattle.eon_spec.specs.declared.Refusal.{Refusal}
-use Rattle.eon_spec.specs.declared.Answer.{Answer}
-use Rattle.eon_spec.specs.declared.Answer.TheVariants as answer
-use Rattle.eon_spec.specs.declared.Compared.{Compared}
-use Rattle.eon_spec.specs.declared.Compared.TheVariants as compared
+use Rattle.std.specs.Prelude.{ℕ, ◌+◌, ◌-◌, Bool, true, false, ◌&&◌, ◌||◌, not, cond, List, [], ◌∷◌, ◌++◌, length, take, drop, ltb, leb, eqb, Option, Some, None, Result, Ok, Err}
+use Rattle.eon_spec.specs.declared.refusal.Refusal as refusal
 use Rattle.eon_spec.specs.declared.Which.{Which}
 use Rattle.eon_spec.specs.declared.Which.TheVariants.{Quoted, Scratch}
-use Rattle.eon_spec.specs.declared.Unquoted.{Unquoted}
-use Rattle.eon_spec.specs.declared.Unquoted.TheVariants as unquoted
+use Rattle.eon_spec.specs.declared.Part.{Part}
+use Rattle.eon_spec.specs.Refused.{Refusal, refusal_of}
 use Rattle.eon_spec.specs.declared.Setting.{Setting}
 use Rattle.eon_spec.specs.declared.FormatOptions.{FormatOptions}
 use Rattle.eon_spec.specs.Base.{elem, eq_list, codes}
@@ -29,6 +24,11 @@ pub data Outcome (A : Type 0) : Type 0 where
 abbrev pub then : {A B : Type 0} → Outcome A → (A → Outcome B) → Outcome B
 then (done a) f = f a
 then (refused_with r) f = refused_with r
+
+-- the paper's outcome for what a call answers
+abbrev pub outcome_of : {A : Type 0} → Result A refusal.Refusal → Outcome A
+outcome_of (Ok a) = done a
+outcome_of (Err r) = refused_with (refusal_of r)
 
 -- a call's answer, and what the lent memory holds after it: entries E, which are numbers but for the list of hits
 pub record AfterIn (E A : Type 0) : Type 0 where
@@ -50,8 +50,8 @@ nowhere n = refusal n (place 0)
 
 -- what there is; where there is nothing, a refusal
 abbrev pub or_refused : {A : Type 0} → ℕ → Option A → Outcome A
-or_refused n none = refused_with (nowhere n)
-or_refused n (some a) = done a
+or_refused n None = refused_with (nowhere n)
+or_refused n (Some a) = done a
 
 -- ---- a text
 
@@ -88,11 +88,6 @@ fill old (done (a, new)) =
 -- the number of records, and the table
 unfoldable pub read_call : List ℕ → List ℕ → After ℕ
 read_call s table = fill table (then (read_text s) λ t. let rs = tree_records t in done (length rs, words rs))
-
--- the paper's outcome for each answer of the reading and the layout call
-abbrev pub outcome_of : Answer → Outcome ℕ
-outcome_of (answer.Done n) = done n
-outcome_of (answer.Refused r) = refused_with r
 
 -- ---- a finished table
 
@@ -168,18 +163,9 @@ compare_call s sTable t tTable =
     then (read_finished t tTable) λ b.
     done (same_records s (tree_records a) t (tree_records b))
 
-abbrev pub compared_outcome : Compared → Outcome Bool
-compared_outcome (compared.Equal b) = done b
-compared_outcome (compared.Refused r) = refused_with r
-
 -- ---- unquoting
 
 -- a part of one of the two slices: which, from where, and how many bytes
-pub record Part : Type 0 where
-  pub which : Which
-  pub start : ℕ
-  pub len : ℕ
-
 abbrev pub part_of : Which → ℕ → ℕ → Part
 part_of w start len = record { which = w; start = start; len = len }
 
@@ -203,10 +189,6 @@ handed_back s b = cond (is_part s) (part_of Quoted (opening s) (length b), []) (
 unfoldable pub unquote_call : List ℕ → List ℕ → After Part
 unquote_call s scratch =
     fill scratch (then (checked s λ t. unescaped_outcome (unquote t)) λ b. done (handed_back s b))
-
-abbrev pub unquoted_outcome : Unquoted → Outcome Part
-unquoted_outcome (unquoted.Part w start len) = done (part_of w start len)
-unquoted_outcome (unquoted.Refused r) = refused_with r
 
 -- of the two slices the one that is named
 abbrev pub pick : {A : Type 0} → Which → A → A → A

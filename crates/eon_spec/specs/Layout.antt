@@ -1,6 +1,5 @@
 -- The layout of a tree (format.rs; document 01, "Layout"). It looks at kinds and bytes, never at spans.
-use Rattle.std.specs.Prelude.{ℕ, zero, suc, ◌+◌, ◌-◌, Bool, true, false, ◌&&◌, ◌||◌, not, cond, List, [], ◌∷◌, ◌++◌, length, take, replicate, ltb, leb}
-use Rattle.std.proofs.Math.Option.{Option, none, some}
+use Rattle.std.specs.Prelude.{ℕ, zero, suc, ◌+◌, ◌-◌, Bool, true, false, ◌&&◌, ◌||◌, not, cond, List, [], ◌∷◌, ◌++◌, length, take, replicate, ltb, leb, Option, None, Some}
 use Rattle.eon_spec.specs.declared.Setting.{Setting}
 use Rattle.eon_spec.specs.declared.FormatOptions.{FormatOptions}
 use Rattle.eon_spec.specs.Base.{elem, codes}
@@ -68,8 +67,8 @@ is_empty [] = true
 is_empty (c ∷ cs) = false
 
 abbrev pub is_none : Option Slice → Bool
-is_none none = true
-is_none (some c) = false
+is_none None = true
+is_none (Some c) = false
 
 abbrev pub no_values : TokenTrees → Bool
 no_values no_trees = true
@@ -170,8 +169,8 @@ module _ (o : Settings) where
 
   -- one blank, and the comment
   abbrev pub suffix_comment : Option Slice → List ℕ
-  suffix_comment none = []
-  suffix_comment (some c) = 32 ∷ c.bytes
+  suffix_comment None = []
+  suffix_comment (Some c) = 32 ∷ c.bytes
 
   -- "A blank line stands before a later item with prefix comments (for a pair, its key's)"
   abbrev pub gap : Bool → TokenTree → List ℕ

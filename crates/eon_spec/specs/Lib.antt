@@ -2,6 +2,7 @@ pub mod Base
 pub mod Utf8
 pub mod Regex
 pub mod Token
+pub mod Refused
 pub mod Tree
 pub mod Parse
 pub mod RecordKind

@@ -1,6 +1,5 @@
 -- Many names in one walk (document 02, L2): a list of paths, the values that they reach in an event, and the steps.
-use Rattle.std.specs.Prelude.{ℕ, suc, ◌+◌, ◌-◌, ◌≡◌, Bool, true, false, cond, List, [], ◌∷◌, ◌++◌, length, replicate, leb}
-use Rattle.std.proofs.Math.Option.{Option, none, some}
+use Rattle.std.specs.Prelude.{ℕ, suc, ◌+◌, ◌-◌, ◌≡◌, Bool, true, false, cond, List, [], ◌∷◌, ◌++◌, length, replicate, leb, Option, None, Some}
 use Rattle.eon_spec.specs.declared.Found.{Found}
 use Rattle.eon_spec.specs.Base.{within, elem, eq_list}
 use Rattle.eon_spec.specs.Tree.{TokenTree, TokenValue, TokenTrees, KeyValues, tree, identifier, number, quoted_string, list_of, map_of, variant_of, no_trees, ◌∷ᵗ◌, no_pairs, pair}
@@ -25,56 +24,56 @@ Path = List Key
 
 -- two that there are, joined
 abbrev pub both : {A B C : Type 0} → (A → B → C) → Option A → Option B → Option C
-both f none y = none
-both f (some a) none = none
-both f (some a) (some b) = some (f a b)
+both f None y = None
+both f (Some a) None = None
+both f (Some a) (Some b) = Some (f a b)
 
 -- "identifiers or strings compared byte by byte": the bytes of the text, a string's with its quotes; "other kinds match none"
 abbrev pub key_in : TokenValue → Option Key
-key_in (identifier b) = some b
-key_in (number b) = none
-key_in (quoted_string b) = some b
-key_in (list_of vs cl) = none
-key_in (map_of kvs cl) = none
-key_in (variant_of n vs cl) = none
+key_in (identifier b) = Some b
+key_in (number b) = None
+key_in (quoted_string b) = Some b
+key_in (list_of vs cl) = None
+key_in (map_of kvs cl) = None
+key_in (variant_of n vs cl) = None
 
 -- "comments in it are ignored": a tree is the key that its value is, and so of paths
 abbrev pub key_of : TokenTree → Option Key
 key_of (tree s p v x) = key_in v
 
 abbrev pub keys_of : TokenTrees → Option Path
-keys_of no_trees = some []
+keys_of no_trees = Some []
 keys_of (t ∷ᵗ ts) = both ◌∷◌ (key_of t) (keys_of ts)
 
 -- what there is, if it passes
 abbrev pub keep_if : {A : Type 0} → (A → Bool) → Option A → Option A
-keep_if test none = none
-keep_if test (some a) = cond (test a) (some a) none
+keep_if test None = None
+keep_if test (Some a) = cond (test a) (Some a) None
 
 -- "a list of 1 to 8 keys, identifiers or strings"
 abbrev pub path_in : TokenValue → Option Path
-path_in (identifier b) = none
-path_in (number b) = none
-path_in (quoted_string b) = none
+path_in (identifier b) = None
+path_in (number b) = None
+path_in (quoted_string b) = None
 path_in (list_of vs cl) = keep_if (λ ks. within 1 keys_max (length ks)) (keys_of vs)
-path_in (map_of kvs cl) = none
-path_in (variant_of n vs cl) = none
+path_in (map_of kvs cl) = None
+path_in (variant_of n vs cl) = None
 
 abbrev pub path_of : TokenTree → Option Path
 path_of (tree s p v x) = path_in v
 
 abbrev pub paths_of : TokenTrees → Option (List Path)
-paths_of no_trees = some []
+paths_of no_trees = Some []
 paths_of (t ∷ᵗ ts) = both ◌∷◌ (path_of t) (paths_of ts)
 
 -- "a list of paths"; "more than 128 paths" are none
 abbrev pub path_list_in : TokenValue → Option (List Path)
-path_list_in (identifier b) = none
-path_list_in (number b) = none
-path_list_in (quoted_string b) = none
+path_list_in (identifier b) = None
+path_list_in (number b) = None
+path_list_in (quoted_string b) = None
 path_list_in (list_of vs cl) = keep_if (λ ps. leb (length ps) paths_max) (paths_of vs)
-path_list_in (map_of kvs cl) = none
-path_list_in (variant_of n vs cl) = none
+path_list_in (map_of kvs cl) = None
+path_list_in (variant_of n vs cl) = None
 
 unfoldable pub path_list : TokenTree → Option (List Path)
 path_list (tree s p v x) = path_list_in v
@@ -83,8 +82,8 @@ path_list (tree s p v x) = path_list_in v
 
 -- a key of a path is that of a pair
 abbrev pub is_key : Key → Option Key → Bool
-is_key k none = false
-is_key k (some b) = eq_list k b
+is_key k None = false
+is_key k (Some b) = eq_list k b
 
 -- how many records a tree has
 abbrev pub count : TokenTree → ℕ

@@ -1,9 +1,10 @@
 -- From tokens to a tree (parse.rs; document 01, "Reading the sheet"), with the refusals 3 to 13.
-use Rattle.std.specs.Prelude.{ℕ, zero, suc, Bool, true, false, ◌&&◌, not, cond, List, [], ◌∷◌, ◌++◌, length, ltb}
-use Rattle.std.proofs.Math.Option.{Option, none, some}
-use Rattle.eon_spec.specs.declared.Refusal.{Refusal}
+use Rattle.std.specs.Prelude.{ℕ, zero, suc, Bool, true, false, ◌&&◌, not, cond, List, [], ◌∷◌, ◌++◌, length, ltb, Option, None, Some}
+use Rattle.eon_spec.specs.Refused.{Refusal}
 use Rattle.eon_spec.specs.Base.{elem}
-use Rattle.eon_spec.specs.Token.{TokenKind, Invalid, Comment, OpenList, CloseList, OpenBrace, CloseBrace, OpenParen, CloseParen, Colon, Comma, Identifier, Number, DoubleQuotedString, SingleQuotedString, MultilineBasicString, MultilineLiteralString, kind_number, is_kind, Token, tokens}
+use Rattle.eon_spec.specs.declared.token_kind.TokenKind.{TokenKind}
+use Rattle.eon_spec.specs.declared.token_kind.TokenKind.TheVariants.{Invalid, Comment, OpenList, CloseList, OpenBrace, CloseBrace, OpenParen, CloseParen, Colon, Comma, Identifier, Number, DoubleQuotedString, SingleQuotedString, MultilineBasicString, MultilineLiteralString}
+use Rattle.eon_spec.specs.Token.{kind_number, is_kind, Token, tokens}
 use Rattle.eon_spec.specs.Tree.{Span, Slice, TokenTree, TokenValue, TokenTrees, KeyValues, tree, identifier, number, quoted_string, list_of, map_of, variant_of, no_trees, ◌∷ᵗ◌, no_pairs, pair}
 
 -- a refusal at a place; one of 11 and 12, with the expected and the found kind
@@ -56,11 +57,11 @@ comments_at (behind l ts) = parse_comments l ts
 
 -- parse_suffix_comment: a comment next, on the same line
 unfoldable pub suffix_comment : Cursor → Option Slice × Cursor
-suffix_comment (behind l []) = (none, behind l [])
+suffix_comment (behind l []) = (None, behind l [])
 suffix_comment (behind l (t ∷ ts)) =
     elim (is_kind t.kind Comment && not t.new_line) [
-      | true ↦ (some (slice_of t), behind (span_of t) ts)
-      | false ↦ (none, behind l (t ∷ ts))
+      | true ↦ (Some (slice_of t), behind (span_of t) ts)
+      | false ↦ (None, behind l (t ∷ ts))
     ]
 
 -- consume_token: 12 at the previous token where the text ends, 3 an invalid token, 11 a wrong one
@@ -231,9 +232,9 @@ none_is_left (behind l (x ∷ xs)) t = refused_by (refusal 13 (span_of x))
 
 -- one value is the tree, several are a list that spans the text
 abbrev pub top_list : ℕ → TokenTrees → List Slice → TokenTree
-top_list len no_trees cl = tree (record { start = 0; end = len }) [] (list_of no_trees cl) none
+top_list len no_trees cl = tree (record { start = 0; end = len }) [] (list_of no_trees cl) None
 top_list len (t ∷ᵗ no_trees) cl = t
-top_list len (t ∷ᵗ (u ∷ᵗ us)) cl = tree (record { start = 0; end = len }) [] (list_of (t ∷ᵗ (u ∷ᵗ us)) cl) none
+top_list len (t ∷ᵗ (u ∷ᵗ us)) cl = tree (record { start = 0; end = len }) [] (list_of (t ∷ᵗ (u ∷ᵗ us)) cl) None
 
 -- both attempts fail: the second's refusal wins only if its last consumed token ends strictly later
 abbrev pub further : Refusal → ℕ → Refusal → ℕ → Refusal
@@ -241,7 +242,7 @@ further ra la rb lb = cond (ltb la lb) rb ra
 
 -- parse_top_str: the text read as the inside of a map and, if that fails, as the inside of a list
 abbrev pub top_of : ℕ → Read TokenMap → Read TokenList → Parsed
-top_of len (read m c) l = none_is_left c (tree (record { start = 0; end = len }) [] (map_of m.key_values m.closing) none)
+top_of len (read m c) l = none_is_left c (tree (record { start = 0; end = len }) [] (map_of m.key_values m.closing) None)
 top_of len (refused ra la) (read l c) = none_is_left c (top_list len l.values l.closing)
 top_of len (refused ra la) (refused rb lb) = refused_by (further ra la rb lb)
 

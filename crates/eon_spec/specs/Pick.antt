@@ -1,6 +1,5 @@
 -- A place picked on the screen (document 02, L1): the record at a byte offset, and the records in a byte range.
-use Rattle.std.specs.Prelude.{ℕ, suc, pred, ◌+◌, ◌-◌, min, max, Bool, true, false, ◌&&◌, ◌||◌, cond, List, [], ◌∷◌, length, ltb, leb, eqb}
-use Rattle.std.proofs.Math.Option.{Option, none, some}
+use Rattle.std.specs.Prelude.{ℕ, suc, pred, ◌+◌, ◌-◌, min, max, Bool, true, false, ◌&&◌, ◌||◌, cond, List, [], ◌∷◌, length, ltb, leb, eqb, Option, None, Some}
 use Rattle.eon_spec.specs.Records.{Record, tree_records}
 use Rattle.eon_spec.specs.declared.Hit.{Hit}
 use Rattle.eon_spec.specs.Calls.{Outcome, done, then, or_refused, AfterIn, fill, read_finished}
@@ -17,7 +16,7 @@ distance o b = (o - b) + (b - o)
 
 -- the byte of a record that is nearest to the offset: the offset itself, the record's first byte or its last; none of an empty span
 abbrev pub nearest_in : ℕ → Record → Option ℕ
-nearest_in o r = cond (ltb r.start r.end) (some (max r.start (min o (pred r.end)))) none
+nearest_in o r = cond (ltb r.start r.end) (Some (max r.start (min o (pred r.end)))) None
 
 -- "of one before and one after at equal distance, the earlier": b is preferred to a
 abbrev pub prefers : ℕ → ℕ → Bool
@@ -29,30 +28,30 @@ wins o b a = ltb (distance o b) (distance o a) || (eqb (distance o b) (distance 
 
 -- the winner of what one record has and what the later ones have
 abbrev pub nearer : ℕ → Option ℕ → Option ℕ → Option ℕ
-nearer o none y = y
-nearer o (some a) none = some a
-nearer o (some a) (some b) = cond (wins o b a) (some b) (some a)
+nearer o None y = y
+nearer o (Some a) None = Some a
+nearer o (Some a) (Some b) = cond (wins o b a) (Some b) (Some a)
 
 -- "the nearest byte that a record covers", which is the offset where a record holds it
 abbrev pub nearest : ℕ → List Record → Option ℕ
-nearest o [] = none
+nearest o [] = None
 nearest o (r ∷ rs) = nearer o (nearest_in o r) (nearest o rs)
 
 -- a later record, if there is one; or this one, number n, if it passes
 abbrev pub or_this : Option ℕ → Bool → ℕ → Option ℕ
-or_this none b n = cond b (some n) none
-or_this (some m) b n = some m
+or_this None b n = cond b (Some n) None
+or_this (Some m) b n = Some m
 
 -- "the highest-numbered record that holds that byte"; the first is number n
 abbrev pub highest : ℕ → ℕ → List Record → Option ℕ
-highest b n [] = none
+highest b n [] = None
 highest b n (r ∷ rs) = or_this (highest b (suc n) rs) (holds_byte b r) n
 
 -- "Given a byte offset, answer the highest-numbered record whose span holds it. If none does, take the nearest byte that a record covers";
 -- "The answer is the highest-numbered record that holds that byte": the byte first, then the record. "An offset beyond the text is allowed"
 abbrev pub picked_by : Option ℕ → List Record → Option ℕ
-picked_by none rs = none
-picked_by (some b) rs = highest b 0 rs
+picked_by None rs = None
+picked_by (Some b) rs = highest b 0 rs
 
 unfoldable pub picked : ℕ → List Record → Option ℕ
 picked o rs = picked_by (nearest o rs) rs

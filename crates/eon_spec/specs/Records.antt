@@ -1,7 +1,6 @@
 -- The record table of a tree (document 01, "Reading the sheet"): five words a record, in source order. Kinds: 1 identifier, 2 number,
 -- 3 string, 4 list, 5 map, 6 variant, 7 prefix, 8 suffix, 9 closing comment.
-use Rattle.std.specs.Prelude.{ℕ, suc, List, [], ◌∷◌, ◌++◌, length}
-use Rattle.std.proofs.Math.Option.{Option, none, some}
+use Rattle.std.specs.Prelude.{ℕ, suc, List, [], ◌∷◌, ◌++◌, length, Option, None, Some}
 use Rattle.eon_spec.specs.Tree.{Span, Slice, TokenTree, TokenValue, TokenTrees, KeyValues, tree, identifier, number, quoted_string, list_of, map_of, variant_of, no_trees, ◌∷ᵗ◌, no_pairs, pair}
 
 pub record Record : Type 0 where
@@ -26,8 +25,8 @@ comments k [] = []
 comments k (c ∷ cs) = leaf k c.span ∷ comments k cs
 
 abbrev pub suffix : Option Slice → List Record
-suffix none = []
-suffix (some c) = leaf 8 c.span ∷ []
+suffix None = []
+suffix (Some c) = leaf 8 c.span ∷ []
 
 -- a container's record and its inside
 abbrev pub around : ℕ → Span → ℕ → List Record → List Record

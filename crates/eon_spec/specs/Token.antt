@@ -1,14 +1,12 @@
 -- The tokens of a text (token_kind.rs; document 01, "Tokens"): the longest match of the printed rules; space, tab, line feed, form
 -- feed and carriage return are skipped; an invalid token is one character.
-use Rattle.std.specs.Prelude.{ℕ, zero, suc, ◌+◌, pred, Bool, true, false, ◌||◌, cond, List, [], ◌∷◌, length, take, drop, ltb, eqb}
-use Rattle.std.proofs.Math.Option.{Option, none, some}
+use Rattle.std.specs.Prelude.{ℕ, zero, suc, ◌+◌, pred, Bool, true, false, ◌||◌, cond, List, [], ◌∷◌, length, take, drop, ltb, eqb, Option, None, Some}
+-- the kinds of token_kind.rs in the enum's order, behind `Invalid` for what no rule matches
+use Rattle.eon_spec.specs.declared.token_kind.TokenKind.{TokenKind}
+use Rattle.eon_spec.specs.declared.token_kind.TokenKind.TheVariants.{Invalid, Comment, OpenList, CloseList, OpenBrace, CloseBrace, OpenParen, CloseParen, Colon, Comma, Identifier, Number, DoubleQuotedString, SingleQuotedString, MultilineBasicString, MultilineLiteralString}
 use Rattle.eon_spec.specs.Base.{elem}
 use Rattle.eon_spec.specs.Utf8.{Character, chars, joined, code_point}
 use Rattle.eon_spec.specs.Regex.{Regex, ◌to◌, only, one_of, none_of, ◌then◌, ◌or◌, many, char, text, dot, longest}
-
--- the kinds of token_kind.rs in the enum's order, behind `Invalid` for what no rule matches
-pub data TokenKind : Type 0 where
-  Invalid Comment OpenList CloseList OpenBrace CloseBrace OpenParen CloseParen Colon Comma Identifier Number DoubleQuotedString SingleQuotedString MultilineBasicString MultilineLiteralString : TokenKind
 
 -- document 01's numbers
 abbrev pub kind_number : TokenKind → ℕ
@@ -123,5 +121,5 @@ unfoldable pub token_from : List ℕ → ℕ → Option Token
 token_from s at = first (tokens_from 0 at false (chars (drop at s)))
   where
     first : List Token → Option Token
-    first [] = none
-    first (t ∷ ts) = some t
+    first [] = None
+    first (t ∷ ts) = Some t

@@ -1,6 +1,5 @@
 -- The tree of a text with its comments (token_tree.rs). What the Rust holds as a slice of the source is kept with its place.
-use Rattle.std.specs.Prelude.{ℕ, List}
-use Rattle.std.proofs.Math.Option.{Option}
+use Rattle.std.specs.Prelude.{ℕ, List, Option}
 
 pub record Span : Type 0 where
   pub start : ℕ

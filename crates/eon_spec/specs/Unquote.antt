@@ -1,6 +1,5 @@
 -- Unquoting a string, with the refusals 17 to 26, and the identifier test (strings.rs; document 01, "Unquoting").
-use Rattle.std.specs.Prelude.{ℕ, suc, ◌+◌, ◌*◌, ◌-◌, Bool, true, false, ◌&&◌, ◌||◌, not, cond, List, [], ◌∷◌, length, take, drop, ltb, leb, eqb}
-use Rattle.std.proofs.Math.Option.{Option, none, some}
+use Rattle.std.specs.Prelude.{ℕ, suc, ◌+◌, ◌*◌, ◌-◌, Bool, true, false, ◌&&◌, ◌||◌, not, cond, List, [], ◌∷◌, length, take, drop, ltb, leb, eqb, Option, None, Some}
 use Rattle.eon_spec.specs.Base.{within, elem, eq_list, codes}
 use Rattle.eon_spec.specs.Utf8.{decode, encode, is_scalar}
 
@@ -29,16 +28,16 @@ escapes =
 
 -- what the table gives for c
 abbrev pub lookup : ℕ → List (ℕ × ℕ) → Option ℕ
-lookup c [] = none
-lookup c (e ∷ es) = elim (eqb c e.0) [ true ↦ some e.1 | false ↦ lookup c es ]
+lookup c [] = None
+lookup c (e ∷ es) = elim (eqb c e.0) [ true ↦ Some e.1 | false ↦ lookup c es ]
 
 -- the value of a hexadecimal digit
 abbrev pub hex_digit : ℕ → Option ℕ
 hex_digit c =
-    cond (within 48 57 c) (some (c - 48))
-    (cond (within 97 102 c) (some (c - 87))
-    (cond (within 65 70 c) (some (c - 55))
-    none))
+    cond (within 48 57 c) (Some (c - 48))
+    (cond (within 97 102 c) (Some (c - 87))
+    (cond (within 65 70 c) (Some (c - 55))
+    None))
 
 -- where reading stands: in plain text, behind a backslash, in the blanks behind an escaped line feed, behind `\u`, or in
 -- `\u{..` after so many digits with that number so far
@@ -57,8 +56,8 @@ unescape (digits k n) [] = fault 25
 unescape plain (c ∷ s) = elim (eqb c 92) [ true ↦ unescape backslash s | false ↦ push c (unescape plain s) ]
 unescape backslash (c ∷ s) =
     elim (lookup c escapes) [
-      | some d ↦ push d (unescape plain s)
-      | none ↦ elim (eqb c 10) [
+      | Some d ↦ push d (unescape plain s)
+      | None ↦ elim (eqb c 10) [
         | true ↦ unescape blanks s
         | false ↦ elim (eqb c 117) [ true ↦ unescape unicode s | false ↦ fault 21 ]
       ]
@@ -73,8 +72,8 @@ unescape (digits k n) (c ∷ s) =
     elim (eqb c 125) [
       | true ↦ elim (is_scalar n) [ true ↦ push n (unescape plain s) | false ↦ fault 26 ]
       | false ↦ elim (hex_digit c) [
-        | some d ↦ elim (ltb k 8) [ true ↦ unescape (digits (suc k) (n * 16 + d)) s | false ↦ fault 23 ]
-        | none ↦ elim (eqb c 95) [ true ↦ unescape (digits k n) s | false ↦ fault 24 ]
+        | Some d ↦ elim (ltb k 8) [ true ↦ unescape (digits (suc k) (n * 16 + d)) s | false ↦ fault 23 ]
+        | None ↦ elim (eqb c 95) [ true ↦ unescape (digits k n) s | false ↦ fault 24 ]
       ]
     ]
 

@@ -1,8 +1,7 @@
 -- UTF-8: the Unicode standard's Table 3-7, "Well-Formed UTF-8 Byte Sequences". Refusal 2 names the length of a text's longest
 -- well-formed beginning, and a token is a run of characters, so both are defined here.
-use Rattle.std.specs.Prelude.{ℕ, zero, suc, ◌+◌, ◌*◌, ◌-◌, ◌/◌, ◌%◌, Bool, true, false, ◌&&◌, ◌||◌, cond, ◌≡◌, List, [], ◌∷◌, ◌++◌, map, length, take, ltb, eqb}
+use Rattle.std.specs.Prelude.{ℕ, zero, suc, ◌+◌, ◌*◌, ◌-◌, ◌/◌, ◌%◌, Bool, true, false, ◌&&◌, ◌||◌, cond, ◌≡◌, List, [], ◌∷◌, ◌++◌, map, length, take, ltb, eqb, Option, None, Some}
 use Prim.Native.String.{String}
-use Rattle.std.proofs.Math.Option.{Option, none, some}
 use Rattle.eon_spec.specs.Base.{within, codes}
 
 -- a range of bytes, its ends included
@@ -38,8 +37,8 @@ table37 =
 
 -- the further bytes of the row whose first byte this is
 abbrev pub row_of : List Row → ℕ → Option (List Range)
-row_of [] b = none
-row_of ((first then more) ∷ rows) b = elim (in_range first b) [ true ↦ some more | false ↦ row_of rows b ]
+row_of [] b = None
+row_of ((first then more) ∷ rows) b = elim (in_range first b) [ true ↦ Some more | false ↦ row_of rows b ]
 
 -- the text begins with bytes of these ranges
 abbrev pub fits : List Range → List ℕ → Bool
@@ -49,8 +48,8 @@ fits (r ∷ rs) (b ∷ s) = in_range r b && fits rs s
 
 -- the length of a character with these further bytes, 0 if the text has others
 abbrev pub len_if : Option (List Range) → List ℕ → ℕ
-len_if none s = 0
-len_if (some more) s = elim (fits more s) [ true ↦ suc (length more) | false ↦ 0 ]
+len_if None s = 0
+len_if (Some more) s = elim (fits more s) [ true ↦ suc (length more) | false ↦ 0 ]
 
 -- the length of the well-formed character that the text begins with, 0 if there is none
 unfoldable pub char_len : List ℕ → ℕ

@@ -2,29 +2,15 @@
 #![tactic(auto)]
 
 ghost use Rattle.std.specs.Prelude.{◌≡◌};
-ghost use Rattle.eon_spec.specs.Parse.{refusal};
-ghost use Rattle.eon_spec.specs.Calls.{place};
-ghost use Rattle.eon_spec.specs.Layout.{setting_of, default_options};
+ghost use Rattle.eon_spec.specs.Layout.{setting_of, text_of, default_options};
 
-pub mod error;
 pub mod record_kind;
+pub mod refusal;
+pub mod token_kind;
 
-// Why a call refuses: the number, the place in bytes, and the token kinds that 11 and 12 name (0 in the others).
-#[derive(Clone, Copy)]
-pub struct Refusal {
-    pub number: u32,
-    pub start: usize,
-    pub end: usize,
-    pub expected: u32,
-    pub found: u32,
-}
-
-// Reading answers how many records it wrote, and layout how many bytes.
-#[derive(Clone, Copy)]
-pub enum Answer {
-    Done(usize),
-    Refused(Refusal),
-}
+pub use record_kind::RecordKind;
+pub use refusal::{Reason, Refusal};
+pub use token_kind::TokenKind;
 
 // A record that shares a byte with a range: its number and its span. C lends a list of these, so the layout is C's.
 #[repr(C)]
@@ -38,8 +24,8 @@ pub struct Hit {
 // What the two calls of a run answered, reading and then layout.
 #[derive(Clone, Copy)]
 pub struct Run {
-    pub read: Answer,
-    pub written: Answer,
+    pub read: Result<usize, Refusal>,
+    pub written: Result<usize, Refusal>,
 }
 
 // What the afternoon's and the evening's run answered.
@@ -56,13 +42,6 @@ pub struct Rows {
     pub second: Runs,
 }
 
-// Comparison answers whether two trees are equal.
-#[derive(Clone, Copy)]
-pub enum Compared {
-    Equal(bool),
-    Refused(Refusal),
-}
-
 // The most paths that are looked up at once, and the most keys of a path.
 pub const PATHS_MAX: usize = 128;
 
@@ -74,22 +53,23 @@ pub const NONE: u32 = 4294967295;
 // A lookup answers how many steps it took, and beside that for each path the number of a record, or NONE.
 #[derive(Clone, Copy)]
 pub struct Found {
-    pub answer: Answer,
+    pub answer: Result<usize, Refusal>,
     pub answers: [u32; PATHS_MAX],
 }
 
 // The slice that holds an unquoted value.
-#[derive(Clone, Copy)]
+#[derive(Clone, Copy, PartialEq, Eq)]
 pub enum Which {
     Quoted,
     Scratch,
 }
 
-// Unquoting answers which slice holds the value, where it starts there, and how long it is.
-#[derive(Clone, Copy)]
-pub enum Unquoted {
-    Part(Which, usize, usize),
-    Refused(Refusal),
+// A part of one of the two slices: where an unquoted value starts there, and how long it is.
+#[derive(Clone, Copy, PartialEq, Eq)]
+pub struct Part {
+    pub which: Which,
+    pub start: usize,
+    pub len: usize,
 }
 
 // The most bytes that a setting may have.
@@ -112,21 +92,6 @@ pub struct FormatOptions {
     pub always_include_outer_braces: bool,
 }
 
-impl Refusal {
-    // A refusal at a place of no length.
-    pub fn new(number: u32, at: usize) -> Self
-        ensures { result ≡ refusal number (place at) }
-    {
-        Refusal {
-            number,
-            start: at,
-            end: at,
-            expected: 0,
-            found: 0,
-        }
-    }
-}
-
 impl Setting {
     // A setting with these bytes. Of more than SETTING_MAX it has the length alone, and layout refuses it by 16.
     pub fn new(text: &[u8]) -> Self
@@ -137,12 +102,14 @@ impl Setting {
         if SETTING_MAX < len {
             return Setting { bytes, len };
         }
-        let mut i = 0;
-        while i < len {
-            bytes[i] = text[i];
-            i += 1;
-        }
+        bytes[..len].copy_from_slice(text);
         Setting { bytes, len }
+    }
+
+    pub fn text(&self) -> &[u8]
+        ensures { result.now ≡ text_of self.now }
+    {
+        &self.bytes[..self.len.min(SETTING_MAX)]
     }
 }
 
@@ -165,14 +132,14 @@ impl FormatOptions {
     }
 
     pub fn with_indentation(mut self, indentation: Setting) -> Self
-        ensures { result ≡ record { indentation = indentation; newline = self.newline; space_before_suffix_comment = self.space_before_suffix_comment; key_value_separator = self.key_value_separator; always_include_outer_braces = self.always_include_outer_braces } }
+        ensures { result ≡ record self { indentation = indentation } }
     {
         self.indentation = indentation;
         self
     }
 
     pub fn with_newline(mut self, newline: Setting) -> Self
-        ensures { result ≡ record { indentation = self.indentation; newline = newline; space_before_suffix_comment = self.space_before_suffix_comment; key_value_separator = self.key_value_separator; always_include_outer_braces = self.always_include_outer_braces } }
+        ensures { result ≡ record self { newline = newline } }
     {
         self.newline = newline;
         self

@@ -1,18 +1,25 @@
-// The kinds of records, a record's first word, by the names of include/eon.h. In contracts: specs/RecordKind.
-pub const IDENTIFIER: usize = 1;
+// The kinds of records. The numbers, a record's first word, are those of include/eon.h. In contracts: specs/RecordKind.
+ghost use Rattle.std.specs.Prelude.{◌≡◌};
 
-pub const NUMBER: usize = 2;
+#[derive(Clone, Copy, PartialEq, Eq)]
+pub enum RecordKind {
+    Identifier = 1,
+    Number,
+    String,
+    List,
+    Map,
+    Variant,
+    PrefixComment,
+    SuffixComment,
+    ClosingComment,
+}
 
-pub const STRING: usize = 3;
+impl From<RecordKind> for usize {
+    ghost use Rattle.eon_spec.specs.RecordKind.{word_of};
 
-pub const LIST: usize = 4;
+    ghost from_gives = { λ k n. n ≡ word_of k };
 
-pub const MAP: usize = 5;
-
-pub const VARIANT: usize = 6;
-
-pub const PREFIX_COMMENT: usize = 7;
-
-pub const SUFFIX_COMMENT: usize = 8;
-
-pub const CLOSING_COMMENT: usize = 9;
+    fn from(kind: RecordKind) -> usize {
+        kind as usize
+    }
+}

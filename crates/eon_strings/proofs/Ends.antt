@@ -3,23 +3,24 @@ use mathlib.Core.Path.{◌≡◌, refl, sym, ap, ◌∙◌}
 use mathlib.Core.Logic.{◌⊎◌, inl, inr}
 use mathlib.Core.Bool.{Bool, true, false}
 use mathlib.Core.List.{List, [], ◌∷◌, ◌++◌, map, append-nil, append_assoc}
-use Prim.Native.Nat.{ℕ, zero, suc, ◌+◌, ◌-◌, ◌≤◌, ◌<◌}
+use Prim.Native.Nat.{ℕ, suc, ◌+◌, ◌-◌, ◌≤◌, ◌<◌}
 use native.Mathlib.Omega.{arith}
 use borrow.Author.Tests.{ne_eqb, le-leb, lt-leb}
 use lib.Dec.{leb}
-use lib.ListN.{length, get_or, drop, take, replicate, length-append, length-drop, length-replicate, get_or-replicate}
-use lib.Seq.{take_all, take-nil, take_at, drop_at, drop-drop, get_or-drop, get_or-append_seam, get_or-append-add}
-use Rattle.eon_spec.specs.Base.{eq_list}
+use lib.ListN.{length, get_or, drop, take, replicate, length-append, length-replicate, get_or-replicate}
+use lib.Seq.{take-length, take-suc, take_at, drop_at, get_or-drop, get_or-append_seam, get_or-append-add}
+use native.Mathlib.Numerals.{add-one}
+use Rattle.eon_spec.specs.Base.{eq_list, elem}
 use Rattle.eon_spec.specs.Utf8.{Character, chars, chars_from, well_formed_len, joined, code_point, decode}
 use Rattle.eon_spec.specs.Unquote.{without, ends_with}
-use Rattle.eon_laws.proofs.Facts.{and_right, list_eq, list_same}
+use Rattle.eon_laws.proofs.Facts.{and_right, list_eq, list_same, nor_left, elem_append}
 use Rattle.eon_laws.proofs.Utf8.{chars_concat}
 use Rattle.eon_laws.proofs.Chars.{IsChar, AllChars, chars_are, all_formed, all_chars}
-use Rattle.eon_unescape.specs.Views.{kept, between, Formed, NextIs}
-use Rattle.eon_strings.specs.Views.{Inside, ClosingIs}
-use Rattle.eon_strings.proofs.Bytes.{and-false}
-use Rattle.eon_unescape.proofs.Places.{between_last, char_is, high_at, length_between, no_bytes, nothing_between, CharIs}
-use Rattle.eon_escape.proofs.Lists.{without_append}
+use Rattle.eon_unescape.specs.Views.{kept, Formed, BytesOf}
+use Rattle.std.proofs.lemmas.List.{length-take-le, take-take}
+use Rattle.eon_strings.specs.Views.{Before, EndsOtherwise, FrontOf}
+use Rattle.eon_unescape.proofs.Places.{char_is, high_at, CharIs}
+use Rattle.eon_unescape.proofs.Lists.{without_append}
 
 -- ---- the last of a row of characters
 
@@ -102,25 +103,25 @@ module _ (a : List ℕ) (b : ℕ) (f : Formed (a ++ (b ∷ []))) where
       go (inl x) = (x.1, x.2)
       go (inr x) = absurd (omega (arith, x.0))
 
-  return_ends : b ≡ 13 → Formed a × (kept (a ++ (b ∷ [])) 0 ≡ kept a 0)
+  return_ends : b ≡ 13 → Formed a × (kept (a ++ (b ∷ [])) ≡ kept a)
   unfolding kept
   return_ends e =
       let x = ascii_ends (omega arith) in
       (x.0, ap (without 13) x.1 ∙ without_append 13 (decode a) (b ∷ []) ∙ rw e (append-nil (without 13 (decode a))))
 
-  other_ends : b < 128 → (b ≡ 13 → ⊥) → Formed a × (kept (a ++ (b ∷ [])) 0 ≡ kept a 0 ++ (b ∷ []))
+  other_ends : b < 128 → (b ≡ 13 → ⊥) → Formed a × (kept (a ++ (b ∷ [])) ≡ kept a ++ (b ∷ []))
   unfolding kept
   other_ends h n =
       let x = ascii_ends h in
       (x.0, ap (without 13) x.1 ∙ without_append 13 (decode a) (b ∷ []) ∙ ap (λ (l : List ℕ). without 13 (decode a) ++ l) (rw (ne_eqb b 13 n, without)))
 
   -- a last byte that is no quote ends a character that is none
-  no_quote_ends : (q : ℕ) → q < 128 → (b ≡ 13 → ⊥) → (b ≡ q → ⊥) → (x : List ℕ) × (p : ℕ) × (p ≡ q → ⊥) × (kept (a ++ (b ∷ [])) 0 ≡ x ++ (p ∷ []))
+  no_quote_ends : (q : ℕ) → q < 128 → (b ≡ 13 → ⊥) → (b ≡ q → ⊥) → (x : List ℕ) × (p : ℕ) × (p ≡ q → ⊥) × (kept (a ++ (b ∷ [])) ≡ x ++ (p ∷ []))
   unfolding kept
   no_quote_ends q h n m = go (byte_ends a b f)
     where
-      go : ByteEnds a b → (x : List ℕ) × (p : ℕ) × (p ≡ q → ⊥) × (kept (a ++ (b ∷ [])) 0 ≡ x ++ (p ∷ []))
-      go (inl x) = (kept a 0, b, m, (other_ends x.0 n).1)
+      go : ByteEnds a b → (x : List ℕ) × (p : ℕ) × (p ≡ q → ⊥) × (kept (a ++ (b ∷ [])) ≡ x ++ (p ∷ []))
+      go (inl x) = (kept a, b, m, (other_ends x.0 n).1)
       go (inr x) =
           (without 13 x.1, x.2, λ e. omega (arith, x.3), ap (without 13) x.4 ∙ without_append 13 x.1 (x.2 ∷ []) ∙ ap (λ (l : List ℕ). without 13 x.1 ++ l) (rw (ne_eqb x.2 13 (λ e. omega (arith, x.3)), without)))
 
@@ -152,13 +153,13 @@ module _ (q n : ℕ) where
   none_before u j h e =
       let l : length (replicate n q) ≡ n = length-replicate n q in
       let size : length u ≡ j = ap length e ∙ length-replicate j q in
-      and-false (leb (length (replicate n q)) (length u)) _ (lt-leb (length (replicate n q)) (length u) (omega arith))
+      rw (lt-leb (length (replicate n q)) (length u) (omega arith))
 
   module _ (u v : List ℕ) (e : u ≡ v ++ replicate n q) where
     size_all : length u ≡ length v + n
     size_all = ap length e ∙ length-append v (replicate n q) ∙ rw (length-replicate n q)
 
-    all_behind : ends_with (replicate n q) u ≡ true
+    pub all_behind : ends_with (replicate n q) u ≡ true
     all_behind =
         let l : length (replicate n q) ≡ n = length-replicate n q in
         let s : length u ≡ length v + n = size_all in
@@ -166,117 +167,66 @@ module _ (q n : ℕ) where
         let r : drop (length u - length (replicate n q)) u ≡ replicate n q = ap (drop (length u - length (replicate n q))) e ∙ drop_at v (replicate n q) (length u - length (replicate n q)) k in
         rw (le-leb (length (replicate n q)) (length u) (omega arith), r) (list_same (replicate n q))
 
-    all_before : take (length u - n) u ≡ v
+    pub all_before : take (length u - n) u ≡ v
     all_before =
         let s : length u ≡ length v + n = size_all in
         ap (take (length u - n)) e ∙ take_at v (replicate n q) (length u - n) (omega arith)
 
--- ---- back from the end: what stands before `at`, and the quotes found behind it
+-- ---- fronts
 
-pub record Back (s : List ℕ) (i q n at left : ℕ) : Type 0 where
-  pub inside : Inside s i at
-  pub fewer : left ≤ n
-  pub whole : kept s i ≡ kept (between s i at) 0 ++ replicate (n - left) q
+-- a front of a front
+pub front_of_front : (s t u : List ℕ) → FrontOf s t → FrontOf t u → length u ≤ length t → FrontOf s u
+front_of_front s t u e h l = h ∙ ap (take (length u)) e ∙ take-take (length u) (length t) s l
 
-between_all : (s : List ℕ) (i : ℕ) → between s i (length s) ≡ drop i s
-between_all s i = take_all (length s - i) (drop i s) (omega (arith, length-drop i s))
+-- ---- the last byte of a text
 
-none_kept : (t : List ℕ) → t ≡ [] → kept t 0 ≡ []
+module _ (s : List ℕ) (h : 1 ≤ length s) where
+  cut_last : s ≡ take (length s - 1) s ++ (get_or s (length s - 1) 0 ∷ [])
+  cut_last =
+      let z : suc (length s - 1) ≡ length s = omega arith in
+      sym (take-length s) ∙ ap (λ (n : ℕ). take n s) (sym z) ∙ take-suc s (length s - 1) 0 (omega arith)
+
+  module _ (f : Formed s) where
+    cut_formed : Formed (take (length s - 1) s ++ (get_or s (length s - 1) 0 ∷ []))
+    cut_formed = rw (← cut_last) f
+
+    pub last_return : get_or s (length s - 1) 0 ≡ 13 → Formed (take (length s - 1) s) × (kept s ≡ kept (take (length s - 1) s))
+    last_return e = let r = return_ends (take (length s - 1) s) (get_or s (length s - 1) 0) cut_formed e in (r.0, ap kept cut_last ∙ r.1)
+
+    pub last_quote : (q : ℕ) → q < 128 → 13 < q → get_or s (length s - 1) 0 ≡ q → Formed (take (length s - 1) s) × (kept s ≡ kept (take (length s - 1) s) ++ (q ∷ []))
+    last_quote q k l e =
+        let r = other_ends (take (length s - 1) s) (get_or s (length s - 1) 0) cut_formed (omega arith) (λ w. omega arith) in
+        (r.0, ap kept cut_last ∙ r.1 ∙ ap (λ (b : ℕ). kept (take (length s - 1) s) ++ (b ∷ [])) e)
+
+    pub last_other : (q : ℕ) → q < 128 → (get_or s (length s - 1) 0 ≡ 13 → ⊥) → (get_or s (length s - 1) 0 ≡ q → ⊥) → EndsOtherwise q (kept s)
+    last_other q k n m =
+        let r = no_quote_ends (take (length s - 1) s) (get_or s (length s - 1) 0) cut_formed q k n m in
+        inr (r.0, r.1, r.2, ap kept cut_last ∙ r.3)
+
+  pub cut_front : (u : List ℕ) → FrontOf u s → FrontOf u (take (length s - 1) s)
+  cut_front u e =
+      let n : length (take (length s - 1) s) ≡ length s - 1 = length-take-le (length s - 1) s (omega arith) in
+      front_of_front u s (take (length s - 1) s) e (ap (λ (k : ℕ). take k s) (sym n)) (omega arith)
+
+  pub front_bytes : BytesOf s (take (length s - 1) s)
+  front_bytes x e = nor_left (elem x (take (length s - 1) s)) (elem x (get_or s (length s - 1) 0 ∷ [])) (sym (elem_append x (take (length s - 1) s) (get_or s (length s - 1) 0 ∷ [])) ∙ ap (elem x) (sym cut_last) ∙ e)
+
+pub none_kept : (s : List ℕ) → length s < 1 → kept s ≡ []
 unfolding kept decode chars chars_from
-none_kept t e = rw e
+none_kept [] h = refl
+none_kept (b ∷ s) h = absurd (omega arith)
 
-empty_inside : (s : List ℕ) (i : ℕ) → i ≤ length s → Inside s i i
-empty_inside s i h = record { onward = omega arith; within = h; formed = rw (nothing_between s i i (omega arith)) no_bytes }
+-- a quote more, or an end that is none
+module _ (s : List ℕ) (q i n : ℕ) (t : List ℕ) (x : Before s q i t) where
+  pub before_more : (r : List ℕ) → Before t q 1 r → Before s q (i + 1) r
+  before_more r y = record {
+    is = x.is ∙ ap (λ (l : List ℕ). l ++ replicate i q) y.is ∙ append_assoc (kept r) (q ∷ []) (replicate i q) ∙ rw (add-one i);
+    before = front_of_front s t r x.before y.before y.shorter;
+    formed = y.formed;
+    shorter = omega (arith, x.shorter, y.shorter);
+    bytes = λ b e. y.bytes b (x.bytes b e);
+  }
 
-pub back_start : (s : List ℕ) (i q n : ℕ) → i ≤ length s → Formed (drop i s) → Back s i q n (length s) n
-unfolding kept
-back_start s i q n h f =
-    let z : n - n ≡ 0 = omega arith in
-    record {
-      inside = record { onward = h; within = omega arith; formed = rw (between_all s i) f };
-      fewer = omega arith;
-      whole = rw (between_all s i, z) (sym (append-nil (without 13 (decode (drop i s)))));
-    }
-
-module _ (s : List ℕ) (i q n at left : ℕ) (x : Back s i q n at left) where
-  -- all quotes are found
-  pub back_found : left ≡ 0 → ClosingIs s i q n true at
-  back_found z =
-      let y : n - left ≡ n = omega arith in
-      let w : kept s i ≡ kept (between s i at) 0 ++ replicate n q = x.whole ∙ ap (λ (m : ℕ). kept (between s i at) 0 ++ replicate m q) y in
-      record { is = sym (all_behind q n (kept s i) (kept (between s i at) 0) w); before = λ e. all_before q n (kept s i) (kept (between s i at) 0) w; inside = x.inside }
-
-  not_there : ends_with (replicate n q) (kept s i) ≡ false → ClosingIs s i q n false i
-  not_there e =
-      record {
-        is = sym e;
-        before = λ f. absurd (let y : ◌≡◌ {A = ℕ} 0 1 = cc in omega arith);
-        inside = empty_inside s i (omega (arith, x.inside.onward, x.inside.within));
-      }
-
-  pub back_over : at ≤ i → 0 < left → ClosingIs s i q n false i
-  back_over h k = not_there (none_before q n (kept s i) (n - left) (omega (arith, x.fewer)) (x.whole ∙ ap (λ (l : List ℕ). l ++ replicate (n - left) q) (none_kept (between s i at) (nothing_between s i at h))))
-
-  module _ (h : i < at) where
-    cut : between s i at ≡ between s i (at - 1) ++ (get_or s (at - 1) 0 ∷ [])
-    cut = between_last s i at h x.inside.within
-
-    formed : Formed (between s i (at - 1) ++ (get_or s (at - 1) 0 ∷ []))
-    formed = rw (← cut) x.inside.formed
-
-    split : kept s i ≡ kept (between s i (at - 1) ++ (get_or s (at - 1) 0 ∷ [])) 0 ++ replicate (n - left) q
-    split = x.whole ∙ ap (λ (l : List ℕ). kept l 0 ++ replicate (n - left) q) cut
-
-    before : Formed (between s i (at - 1)) → Inside s i (at - 1)
-    before f = record { onward = omega arith; within = omega (arith, x.inside.within); formed = f }
-
-    pub back_return : get_or s (at - 1) 0 ≡ 13 → Back s i q n (at - 1) left
-    back_return z =
-        let r = return_ends (between s i (at - 1)) (get_or s (at - 1) 0) formed z in
-        record { inside = before r.0; fewer = x.fewer; whole = split ∙ ap (λ (l : List ℕ). l ++ replicate (n - left) q) r.1 }
-
-    pub back_quote : q < 128 → 13 < q → 0 < left → get_or s (at - 1) 0 ≡ q → Back s i q n (at - 1) (left - 1)
-    back_quote k l m z =
-        let y : n - (left - 1) ≡ suc (n - left) = omega (arith, x.fewer) in
-        let r = other_ends (between s i (at - 1)) (get_or s (at - 1) 0) formed (omega arith) (λ w. omega arith) in
-        record {
-          inside = before r.0;
-          fewer = omega (arith, x.fewer);
-          whole =
-              split ∙ ap (λ (l : List ℕ). l ++ replicate (n - left) q) r.1
-              ∙ append_assoc (kept (between s i (at - 1)) 0) (get_or s (at - 1) 0 ∷ []) (replicate (n - left) q)
-              ∙ rw (y, z);
-        }
-
-    pub back_other : q < 128 → 0 < left → (get_or s (at - 1) 0 ≡ 13 → ⊥) → (get_or s (at - 1) 0 ≡ q → ⊥) → ClosingIs s i q n false i
-    back_other k m y z =
-        let r = no_quote_ends (between s i (at - 1)) (get_or s (at - 1) 0) formed q k y z in
-        not_there
-        (other_before q n (kept s i) r.0 r.1 (n - left) (omega (arith, x.fewer)) r.2
-        (split ∙ ap (λ (l : List ℕ). l ++ replicate (n - left) q) r.3 ∙ append_assoc r.0 (r.1 ∷ []) (replicate (n - left) q)))
-
--- ---- behind the first character between two places
-
-drop_take : (e n : ℕ) (l : List ℕ) → drop e (take n l) ≡ take (n - e) (drop e l)
-drop_take zero n l = let z : n - 0 ≡ n = omega arith in rw z
-drop_take (suc e) zero l = let z : 0 - suc e ≡ 0 = omega arith in rw z
-drop_take (suc e) (suc n) [] = sym (take-nil (suc n - suc e))
-drop_take (suc e) (suc n) (x ∷ l) = let z : suc n - suc e ≡ n - e = omega arith in rw z (drop_take e n l)
-
-between_drop : (s : List ℕ) (i t e : ℕ) → drop e (between s i t) ≡ between s (i + e) t
-between_drop s i t e =
-    let z : t - i - e ≡ t - (i + e) = omega arith in
-    drop_take e (t - i) (drop i s) ∙ rw (drop-drop e i s, z)
-
-module _ (s : List ℕ) (i t c e : ℕ) (x : Inside s i t) (y : NextIs (between s i t) 0 c e) where
-  pub next_inside : Inside s (i + e) t
-  next_inside =
-      record {
-        onward = omega (arith, x.onward, y.inside, length_between s i t x.within);
-        within = x.within;
-        formed = rw (← between_drop s i t e) (y.formed x.formed);
-      }
-
-  pub next_between : (e ≡ 0 → ⊥) → kept (between s i t) 0 ≡ c ∷ kept (between s (i + e) t) 0
-  unfolding kept
-  next_between n = y.one_more n ∙ ap (λ (l : List ℕ). c ∷ without 13 (decode l)) (between_drop s i t e)
+  pub before_none : i < n → EndsOtherwise q (kept t) → ends_with (replicate n q) (kept s) ≡ false
+  before_none h (inl e) = none_before q n (kept s) i h (x.is ∙ rw e)
+  before_none h (inr (u, p, d, e)) = other_before q n (kept s) u p i h d (x.is ∙ rw e (append_assoc u (p ∷ []) (replicate i q)))

@@ -1,49 +1,64 @@
 -- What the functions' answers say.
-use Rattle.std.specs.Prelude.{ℕ, ◌-◌, ◌≤◌, ◌<◌, ◌≡◌, Bool, true, false, List, length, drop, take, replicate, eqb}
+use Rattle.std.specs.Prelude.{◌≤◌, ◌≡◌, ℕ, Bool, false, List, [], ◌∷◌, ◌++◌, length, take, replicate, Option, Some, None, Result, Ok, Err, ◌⊎◌}
+use Rattle.std.specs.Borrow.{Bor}
 use Rattle.eon_spec.specs.Base.{eq_list, codes}
-use Rattle.eon_spec.specs.Unquote.{value, fault, unescape, plain, starts_with, ends_with, one_line_only, drop_line_feed, value_bytes}
+use Rattle.eon_spec.specs.Refused.{number_of, refusal_of}
+use Rattle.eon_spec.specs.Unquote.{fault, starts_with, ends_with, value_bytes}
 use Rattle.eon_spec.specs.Unquote as unquoting
+use Rattle.eon_spec.specs.declared.refusal.Reason.{Reason}
 use Rattle.eon_spec.specs.declared.Which.TheVariants.{Scratch}
-use Rattle.eon_spec.specs.Calls.{Part, part_of, Outcome, done, After, then, fill, handed_back, unescaped_outcome}
-use Rattle.eon_escape.specs.Views.{reads_by}
-use Rattle.eon_unescape.specs.Views.{kept, between, Formed}
-use Rattle.eon_escape.specs.declared.Mode.{Mode}
-use Rattle.eon_escape.specs.declared.Mode.TheVariants.{Literal, Plain, Backslash, Blanks, Unicode, Digits}
-use Rattle.eon_strings.specs.declared.strings.Contents.{Contents}
-use Rattle.eon_strings.specs.declared.strings.Contents.TheVariants.{Text, Fault}
+use Rattle.eon_spec.specs.declared.Part.{Part}
+use Rattle.eon_spec.specs.Calls.{part_of, Outcome, done, refused_with, After, then, fill, handed_back, unescaped_outcome}
+use Rattle.eon_unescape.specs.Modes.{reads_by}
+use Rattle.eon_unescape.specs.Views.{kept, Formed, BytesOf, TailOf}
+use Rattle.eon_unescape.specs.declared.mode.Mode.{Mode}
+use Rattle.eon_unescape.specs.declared.mode.Mode.TheVariants.{Literal, Plain, Backslash, Blanks, Unicode, Digits}
+use Rattle.eon_strings.specs.declared.marks.Contents.{Contents}
 
--- two places in a text, with whole characters between them
-pub record Inside (s : List ℕ) (i e : ℕ) : Type 0 where
-  pub onward : i ≤ e
-  pub within : e ≤ length s
-  pub formed : Formed (between s i e)
+-- the first n characters are quotes
+abbrev pub quotes : ℕ → ℕ → List ℕ → Bool
+quotes q n u = eq_list (take n u) (replicate n q)
 
--- n quotes at a place
-pub record StartIs (s : List ℕ) (i q n : ℕ) (yes : Bool) (e : ℕ) : Type 0 where
-  pub is : yes ≡ eq_list (take n (kept s i)) (replicate n q)
-  pub behind : yes ≡ true → kept s e ≡ drop n (kept s i)
-  pub inside : e ≤ length s
-  pub formed : Formed (drop i s) → Formed (drop e s)
+-- s without its last bytes
+abbrev pub FrontOf : List ℕ → List ℕ → Type 0
+FrontOf s t = t ≡ take (length t) s
 
--- n quotes at the end, and what stands before them
-pub record ClosingIs (s : List ℕ) (i q n : ℕ) (closed : Bool) (e : ℕ) : Type 0 where
-  pub is : closed ≡ ends_with (replicate n q) (kept s i)
-  pub before : closed ≡ true → take (length (kept s i) - n) (kept s i) ≡ kept (between s i e) 0
-  pub inside : Inside s i e
+-- the text behind n quotes
+pub record Behind (s : List ℕ) (q n : ℕ) (r : List ℕ) : Type 0 where
+  pub is : kept s ≡ replicate n q ++ kept r
+  pub behind : TailOf s r
+  pub formed : Formed s → Formed r
+  pub shorter : length r ≤ length s
+  pub bytes : BytesOf s r
 
--- what the characters between two marks of n quotes give
-abbrev pub mode_of : ℕ → Mode
-mode_of q = elim (eqb q 39) [ true ↦ Literal | false ↦ Plain ]
+abbrev pub BehindIs : List ℕ → ℕ → ℕ → Option (Bor (List ℕ)) → Type 0
+BehindIs s q n None = quotes q n (kept s) ≡ false
+BehindIs s q n (Some r) = Behind s q n r.now
 
-abbrev pub content : ℕ → ℕ → List ℕ → unquoting.Unescaped
-content q n t =
-    elim (eqb n 1) [
-      | true ↦ one_line_only (reads_by (mode_of q)) t
-      | false ↦ elim (eqb q 39) [ true ↦ value (drop_line_feed t) | false ↦ unescape plain t ]
-    ]
+-- the text before n quotes at its end
+pub record Before (s : List ℕ) (q n : ℕ) (r : List ℕ) : Type 0 where
+  pub is : kept s ≡ kept r ++ replicate n q
+  pub before : FrontOf s r
+  pub formed : Formed r
+  pub shorter : length r ≤ length s
+  pub bytes : BytesOf s r
 
-abbrev pub marked : ℕ → ℕ → List ℕ → unquoting.Unescaped
-marked q n u = elim (ends_with (replicate n q) u) [ true ↦ content q n (take (length u - n) u) | false ↦ fault 18 ]
+abbrev pub BeforeIs : List ℕ → ℕ → ℕ → Result (Bor (List ℕ)) Reason → Type 0
+BeforeIs s q n (Ok r) = Before s q n r.now
+BeforeIs s q n (Err x) = (ends_with (replicate n q) (kept s) ≡ false) × (number_of x ≡ 18)
+
+-- characters that do not end in a quote
+abbrev pub EndsOtherwise : ℕ → List ℕ → Type 0
+EndsOtherwise q u = (u ≡ []) ⊎ ((x : List ℕ) × (p : ℕ) × (p ≡ q → ⊥) × (u ≡ x ++ (p ∷ [])))
+
+abbrev pub OneBeforeIs : List ℕ → ℕ → Option (Bor (List ℕ)) → Type 0
+OneBeforeIs s q None = EndsOtherwise q (kept s)
+OneBeforeIs s q (Some r) = Before s q 1 r.now
+
+-- what the characters between the quotes give, read in their mode
+abbrev pub given : Result Contents Reason → unquoting.Unescaped
+given (Ok c) = reads_by c.mode (kept c.text.now)
+given (Err r) = fault (number_of r)
 
 -- a mode to begin in: literal, or plain where no single quote opens the text
 abbrev pub ModeIs : List ℕ → Mode → Type 0
@@ -52,12 +67,12 @@ ModeIs s Plain = starts_with (codes "'") s ≡ false
 ModeIs s Backslash = ⊥
 ModeIs s Blanks = ⊥
 ModeIs s Unicode = ⊥
-ModeIs s (Digits k n) = ⊥
+ModeIs s (Digits d) = ⊥
 
--- the characters between the quotes, and the mode to read them in, give w
-abbrev pub ContentsIs : List ℕ → unquoting.Unescaped → Contents → Type 0
-ContentsIs s w (Text i e m) = (w ≡ reads_by m (kept (between s i e) 0)) × Inside s i e × ModeIs s m
-ContentsIs s w (Fault n) = (w ≡ fault n) × (0 < n)
+-- an answer, or a refusal "0, 0"
+abbrev pub outcome_at_start : Result Part Reason → Outcome Part
+outcome_at_start (Ok p) = done p
+outcome_at_start (Err r) = refused_with (refusal_of (record { reason = r; start = 0; end = 0 }))
 
 -- the call behind its checks of the quoted text
 abbrev pub handed : List ℕ → List ℕ → Outcome (List ℕ) → After Part

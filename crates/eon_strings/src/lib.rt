@@ -1,7 +1,8 @@
-// Strings: taking the quotes off, showing the value, and the identifier test (strings.rs).
+// Strings: the quotes around them (marks.rt), their values (strings.rt), and the identifier test (identifier.rt).
 #![tactic(auto)]
 
 pub mod identifier;
+pub mod marks;
 pub mod strings;
 
 pub use identifier::is_valid_identifier;

@@ -5,9 +5,9 @@ use mathlib.Core.List.{List}
 use Prim.Native.Nat.{ℕ}
 use native.Mathlib.Omega.{arith}
 use lib.ListN.{length}
-use Rattle.eon_spec.specs.declared.Refusal.{Refusal}
-use Rattle.eon_spec.specs.declared.Answer.{Answer}
-use Rattle.eon_spec.specs.declared.Answer.TheVariants.{Done, Refused}
+use Rattle.std.specs.Prelude.{Result, Ok, Err}
+use Rattle.eon_spec.specs.Refused.{Refusal, refusal_of}
+use Rattle.eon_spec.specs.declared.refusal.Refusal as refusal
 use Rattle.eon_spec.specs.declared.FormatOptions.{FormatOptions}
 use Rattle.eon_spec.specs.Tree.{TokenTree}
 use Rattle.eon_spec.specs.Records.{tree_records}
@@ -23,14 +23,14 @@ lost : (x : Outcome TokenTree) (r : Refusal) → refused_with r ≡ then x count
 lost (done t) r e = absurd (let z : ◌≡◌ {A = ℕ} 0 1 = cc in omega arith)
 lost (refused_with q) r e = cc
 
-module _ (s table : List ℕ) (a : Answer) (e : outcome_of a ≡ then (read_finished s table) count_of) where
-  pub text_finished : (n : ℕ) → a ≡ Done n → (t : TokenTree) × (read_finished s table ≡ done t) × (n ≡ length (tree_records t))
+module _ (s table : List ℕ) (a : Result ℕ refusal.Refusal) (e : outcome_of a ≡ then (read_finished s table) count_of) where
+  pub text_finished : (n : ℕ) → a ≡ Ok n → (t : TokenTree) × (read_finished s table ≡ done t) × (n ≡ length (tree_records t))
   text_finished n f = found (read_finished s table) n (ap outcome_of (sym f) ∙ e)
 
-  text_lost : (r : Refusal) → a ≡ Refused r → read_finished s table ≡ refused_with r
-  text_lost r f = lost (read_finished s table) r (ap outcome_of (sym f) ∙ e)
+  text_lost : (r : refusal.Refusal) → a ≡ Err r → read_finished s table ≡ refused_with (refusal_of r)
+  text_lost r f = lost (read_finished s table) (refusal_of r) (ap outcome_of (sym f) ∙ e)
 
-  pub text_refused : (o : FormatOptions) (out : List ℕ) (r : Refusal) → a ≡ Refused r → good_settings o ≡ true → after (refused_with r) out ≡ format_call s table o out
+  pub text_refused : (o : FormatOptions) (out : List ℕ) (r : refusal.Refusal) → a ≡ Err r → good_settings o ≡ true → after (refused_with (refusal_of r)) out ≡ format_call s table o out
   unfolding format_call checked_settings fill
   text_refused o out r f g = rw (g, checked_settings, text_lost r f)
 

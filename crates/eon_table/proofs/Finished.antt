@@ -1,8 +1,8 @@
+use Rattle.std.specs.Prelude.{Option, None, Some}
 -- A finished table holds its tree, and its records are the tree's.
 use Prim.Native.Nat.{ℕ, suc, ◌+◌, ◌-◌, ◌≤◌, ◌<◌}
 use mathlib.Core.Path.{◌≡◌, refl, sym, ap, ◌∙◌, subst}
 use mathlib.Core.Bool.{Bool, true, false, ◌&&◌}
-use mathlib.Core.Option.{Option, none, some}
 use mathlib.Core.List.{List, [], ◌∷◌, ◌++◌, append_assoc}
 use native.Mathlib.Omega.{arith}
 use native.Mathlib.Nat.{add-zero}
@@ -13,7 +13,7 @@ use lib.Dec.{ltb, eqb}
 use borrow.Author.Tests.{le-ltb, ne_eqb, lt-ltb, eq-eqb}
 use Rattle.eon_spec.specs.Utf8.{is_utf8}
 use Rattle.eon_spec.specs.Tree.{Span, Slice, TokenTree, TokenValue, TokenTrees, KeyValues, tree, identifier, number, quoted_string, list_of, map_of, variant_of, no_trees, ◌∷ᵗ◌, no_pairs, pair}
-use Rattle.eon_spec.specs.declared.Refusal.{Refusal}
+use Rattle.eon_spec.specs.Refused.{Refusal}
 use Rattle.eon_spec.specs.Parse.{Parsed, parsed, refused_by, parse}
 use Rattle.eon_spec.specs.Records.{Record, record_at, leaf, comments, suffix, tree_records, value_records, trees_records, pairs_records, words}
 use Rattle.eon_spec.specs.Calls.{Outcome, done, refused_with, nowhere, checked, parsed_outcome, read_text, then, is_finished, read_finished}
@@ -88,10 +88,10 @@ module _ (s tb : List ℕ) where
   unfolding has_suffix
   clear_kind end i h = ap (λ (x : Bool). ltb i end && x) (ne_eqb (word tb i 0) 8 h) ∙ and_no (ltb i end)
 
-  suffix_at : (end i : ℕ) (x : Option Slice) → RecordsAt tb i (suffix x) → HoldsSuffix s x → i + suffix_size x ≤ end → (x ≡ none → Clear end i) → SuffixAt s tb end i x
+  suffix_at : (end i : ℕ) (x : Option Slice) → RecordsAt tb i (suffix x) → HoldsSuffix s x → i + suffix_size x ≤ end → (x ≡ None → Clear end i) → SuffixAt s tb end i x
   unfolding has_suffix
-  suffix_at end i none h o l f = f refl
-  suffix_at end i (some c) h o l f =
+  suffix_at end i None h o l f = f refl
+  suffix_at end i (Some c) h o l f =
       (ap (λ (x : Bool). x && eqb (word tb i 0) 8) (lt-ltb i end (omega arith)) ∙ eq-eqb (word tb i 0) 8 h.0.kind, leaf_at_lem i 8 c.span c.bytes h.0 o)
 
   inside_length : (vs : TokenTrees) (cl : List Slice) → length (trees_records vs ++ comments 9 cl) ≡ trees_size vs + length cl

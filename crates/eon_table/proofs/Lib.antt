@@ -4,3 +4,4 @@ pub mod Walk
 pub mod Finished
 pub mod Spans
 pub mod Here
+pub mod OfKind

@@ -1,7 +1,7 @@
+use Rattle.std.specs.Prelude.{Option, None, Some}
 -- Each record's text lies in its span, and its span in the text.
 use mathlib.Core.Path.{sym, subst}
 use mathlib.Core.List.{List, [], ◌∷◌, ◌++◌}
-use mathlib.Core.Option.{Option, none, some}
 use Prim.Native.Nat.{ℕ, zero, suc, ◌+◌, ◌≤◌, ◌<◌}
 use native.Mathlib.Omega.{arith}
 use native.Mathlib.Nat.{add-zero}
@@ -35,8 +35,8 @@ module _ (s : List ℕ) where
   comments_spanned k (c ∷ cs) h = (leaf_spanned k c.span 1 h.0.0, comments_spanned k cs h.1)
 
   suffix_spanned : (x : Option Slice) → HoldsSuffix s x → AllSpanned (suffix x)
-  suffix_spanned none h = tt
-  suffix_spanned (some c) h = (leaf_spanned 8 c.span 1 h.0, tt)
+  suffix_spanned None h = tt
+  suffix_spanned (Some c) h = (leaf_spanned 8 c.span 1 h.0, tt)
 
   mutual
     unfolding tree_records value_records trees_records pairs_records

@@ -1,7 +1,7 @@
 -- The records of a table in their order.
 use mathlib.Core.Path.{◌≡◌, refl, sym, ap, ◌∙◌}
 use mathlib.Core.List.{List, [], ◌∷◌, ◌++◌}
-use Prim.Native.Nat.{ℕ, zero, suc, ◌+◌, ◌-◌, ◌*◌, ◌≤◌, ◌<◌}
+use Prim.Native.Nat.{ℕ, zero, suc, ◌+◌, ◌-◌, ◌*◌, ◌<◌}
 use native.Mathlib.Nat.{add-zero, zero-add, add-suc, suc-add}
 use native.Mathlib.Numerals.{add-one}
 use native.Mathlib.Decide.{dec_lt}
@@ -45,10 +45,6 @@ module _ (tb : List ℕ) where
   records_first i n h =
       let e : n - i ≡ suc (n - (i + 1)) = omega arith in
       ap (λ (m : ℕ). records_of tb i m) e ∙ ap (λ (m : ℕ). record_of tb i ∷ records_of tb m (n - (i + 1))) (sym (add-one i))
-
-  pub records_none : (i n : ℕ) → n ≤ i → records_of tb i (n - i) ≡ []
-  unfolding records_of
-  records_none i n h = let e : n - i ≡ 0 = omega arith in ap (λ (m : ℕ). records_of tb i m) e
 
   pub records_all : (n : ℕ) → records_of tb 0 (n - 0) ≡ records_of tb 0 n
   records_all n = let e : n - 0 ≡ n = omega arith in ap (λ (m : ℕ). records_of tb 0 m) e

@@ -1,7 +1,7 @@
+use Rattle.std.specs.Prelude.{Option, None, Some}
 -- The steps of a walk over a table that holds a tree.
 use mathlib.Core.Path.{◌≡◌, refl, sym, ap, ◌∙◌, subst}
 use mathlib.Core.Bool.{Bool, true, false, ◌&&◌, not}
-use mathlib.Core.Option.{Option, none, some}
 use mathlib.Core.List.{List, [], ◌∷◌}
 use Prim.Native.Nat.{ℕ, ◌+◌, ◌≤◌, ◌<◌}
 use native.Mathlib.Omega.{arith}
@@ -138,10 +138,6 @@ module _ (s tb : List ℕ) where
         let q : word tb r 4 ≡ value_size v = value_size_lem s tb r v (tree_value (tree sp p v x) h a) in
         subst (λ (j : ℕ). SuffixAt s tb end j x) (omega arith) h.2
 
-    pub tree_texts : (t : TokenTree) → TreeAt s tb end i t → AfterPrefix tb i r → Texts s tb i r
-    unfolding TreeAt
-    tree_texts (tree sp p v x) h a = subst (λ (j : ℕ). Texts s tb i j) (sym (tree_head (tree sp p v x) h a)) (comments_texts s tb PREFIX_COMMENT i p h.0)
-
     tree_ends : (t : TokenTree) → TreeAt s tb end i t → AfterPrefix tb i r → r + word tb r 4 + suffix_size (suffix_of t) ≡ i + tree_size t
     unfolding TreeAt tree_size
     tree_ends (tree sp p v x) h a =
@@ -150,12 +146,12 @@ module _ (s tb : List ℕ) where
         omega arith
 
     suffix_one : (j : ℕ) (x : Option Slice) → SuffixAt s tb end j x → has_suffix tb end j ≡ true → suffix_size x ≡ 1
-    suffix_one j none h e = clash e h
-    suffix_one j (some c) h e = refl
+    suffix_one j None h e = clash e h
+    suffix_one j (Some c) h e = refl
 
     suffix_zero : (j : ℕ) (x : Option Slice) → SuffixAt s tb end j x → has_suffix tb end j ≡ false → suffix_size x ≡ 0
-    suffix_zero j none h e = refl
-    suffix_zero j (some c) h e = clash h.0 e
+    suffix_zero j None h e = refl
+    suffix_zero j (Some c) h e = clash h.0 e
 
     pub next_suffix : (t : TokenTree) → TreeAt s tb end i t → AfterPrefix tb i r → has_suffix tb end (r + word tb r 4) ≡ true → r + word tb r 4 + 1 ≡ i + tree_size t
     next_suffix t h a e =
@@ -286,9 +282,6 @@ module _ (s tb : List ℕ) (end : ℕ) where
   pub paired_end : (i : ℕ) (cl : List Slice) → PairedAt s tb end i no_pairs cl → end ≡ i + length cl
   unfolding pairs_size
   paired_end i cl h = let e : end ≡ i + 0 + length cl = h.all in omega arith
-
-  pub paired_texts : (j : ℕ) (cl : List Slice) → PairedAt s tb end j no_pairs cl → Texts s tb j end
-  paired_texts j cl h = subst (λ (k : ℕ). Texts s tb j k) (sym (paired_end j cl h)) (comments_texts s tb CLOSING_COMMENT j cl (paired_closing j cl h))
 
   pub no_more : (j : ℕ) (cl : List Slice) → PairedAt s tb end j no_pairs cl → more_at tb end j ≡ false
   no_more j cl h = more_closing j cl (paired_closing j cl h) (paired_end j cl h)

@@ -1,6 +1,5 @@
 -- What it is that a table holds a tree's records from a record on, and that the text holds its bytes.
-use Rattle.std.specs.Prelude.{ℕ, ◌+◌, ◌≡◌, true, false, List, [], ◌∷◌, length}
-use Rattle.std.proofs.Math.Option.{Option, none, some}
+use Rattle.std.specs.Prelude.{ℕ, ◌+◌, ◌≡◌, true, false, List, [], ◌∷◌, length, Option, None, Some}
 use Rattle.eon_spec.specs.Tree.{Slice, TokenTree, TokenValue, TokenTrees, KeyValues, tree, identifier, number, quoted_string, list_of, map_of, variant_of, no_trees, ◌∷ᵗ◌, no_pairs, pair}
 use Rattle.eon_spec.specs.RecordKind.{IDENTIFIER, NUMBER, STRING, LIST, MAP, VARIANT, PREFIX_COMMENT, SUFFIX_COMMENT, CLOSING_COMMENT}
 use Rattle.eon_laws.proofs.Records.{tree_size, value_size, trees_size, pairs_size}
@@ -31,8 +30,8 @@ module _ (s tb : List ℕ) where
   CommentsAt k i (c ∷ cs) = LeafAt k i c.bytes × CommentsAt k (i + 1) cs
 
   abbrev pub SuffixAt : ℕ → ℕ → Option Slice → Type 0
-  SuffixAt end i none = has_suffix tb end i ≡ false
-  SuffixAt end i (some c) = (has_suffix tb end i ≡ true) × LeafAt SUFFIX_COMMENT i c.bytes
+  SuffixAt end i None = has_suffix tb end i ≡ false
+  SuffixAt end i (Some c) = (has_suffix tb end i ≡ true) × LeafAt SUFFIX_COMMENT i c.bytes
 
   -- a container's record
   pub record HeadAt (kind size i : ℕ) : Type 0 where

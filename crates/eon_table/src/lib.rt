@@ -12,4 +12,6 @@
 // A function that calls itself says `SomeValue` in its `requires` and `(v) → ValueAt .. v → ..` in its `ensures`.
 #![tactic(auto)]
 
-pub mod record;
+pub mod sheet;
+
+pub use sheet::{Sheet, part};

@@ -1,10 +1,10 @@
+use Rattle.std.specs.Prelude.{Option, None, Some}
 -- The automaton is the rules': each state is named by a text that leads there, and one computed test says that the derivatives of the states
 -- are the states where the table goes.
 use mathlib.Core.Path.{◌≡◌, refl, sym, ap, ap₂, ◌∙◌}
 use mathlib.Core.Logic.{◌⊎◌, inl, inr}
 use mathlib.Core.Bool.{Bool, true, false, ◌&&◌, and-false, cond}
 use mathlib.Core.List.{List, [], ◌∷◌}
-use mathlib.Core.Option.{Option, none, some}
 use Prim.Native.Nat.{ℕ, zero, suc, ◌≤◌, ◌<◌}
 use Prim.Native.Char.{code}
 use Prim.Native.String.{String, [] as []ˢ, ◌∷◌ as ◌∷ˢ◌}
@@ -55,17 +55,17 @@ closed n k hn hk =
 
 -- the number of the last rule that matches the empty text
 abbrev pub or_mine : Option ℕ → Bool → ℕ → Option ℕ
-or_mine (some j) b k = some j
-or_mine none true k = some k
-or_mine none false k = none
+or_mine (Some j) b k = Some j
+or_mine None true k = Some k
+or_mine None false k = None
 
 abbrev pub accept : List Rule → Option ℕ
-accept [] = none
+accept [] = None
 accept ((k is r) ∷ rs) = or_mine (accept rs) (nullable r) (kind_number k)
 
 abbrev pub known_number : ℕ → Option ℕ
-known_number zero = none
-known_number (suc k) = some (suc k)
+known_number zero = None
+known_number (suc k) = Some (suc k)
 
 all_accept : tabled 31 (λ n. accept (state_of n)) ≡ tabled 31 (λ n. known_number (accepts n))
 unfolding words states accepts rules deriv

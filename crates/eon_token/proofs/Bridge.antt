@@ -1,9 +1,9 @@
+use Rattle.std.specs.Prelude.{Option, None, Some}
 -- The automaton reads the bytes of characters as it reads the characters: what a character past ASCII does, its first byte does, and the bytes
 -- after that change nothing more.
 use mathlib.Core.Path.{◌≡◌, refl, sym, ap, subst, ◌∙◌}
 use mathlib.Core.Logic.{◌⊎◌, inl, inr}
 use mathlib.Core.Bool.{Bool, true, false, ◌&&◌}
-use mathlib.Core.Option.{Option, none, some}
 use mathlib.Core.List.{List, [], ◌∷◌, ◌++◌, map}
 use Prim.Native.Nat.{ℕ, zero, suc, ◌+◌, ◌≤◌, ◌<◌}
 use native.Mathlib.Nat.{suc-add, zero-add}
@@ -70,13 +70,13 @@ unfolding good
 good_rest lo hi [] rows t = and_right (ltb hi 128) (good rows) t
 good_rest lo hi (r ∷ rs) rows t = and_right (leb 192 lo && tails (r ∷ rs)) (good rows) t
 
-fit : (rows : List Row) (b : ℕ) (m : List Range) → T (good rows) → row_of rows b ≡ some m → Fit b m
+fit : (rows : List Row) (b : ℕ) (m : List Range) → T (good rows) → row_of rows b ≡ Some m → Fit b m
 fit [] b m t e = absurd (let y : ◌≡◌ {A = ℕ} 0 1 = cc in omega arith)
 fit (((lo to hi) then g) ∷ rows) b m t e = go (in_range (lo to hi) b) refl e (fit rows b m (good_rest lo hi g rows t))
   where
-    go : (x : Bool) → in_range (lo to hi) b ≡ x → row_of (((lo to hi) then g) ∷ rows) b ≡ some m → (row_of rows b ≡ some m → Fit b m) → Fit b m
+    go : (x : Bool) → in_range (lo to hi) b ≡ x → row_of (((lo to hi) then g) ∷ rows) b ≡ Some m → (row_of rows b ≡ Some m → Fit b m) → Fit b m
     go true p e h =
-        let z : some g ≡ some m = rw (p, row_of) at e in
+        let z : Some g ≡ Some m = rw (p, row_of) at e in
         let y : g ≡ m = cc in
         subst (Fit b) y (fit_row lo hi g rows b t p)
     go false p e h = h (rw (p, row_of) at e)
@@ -108,13 +108,13 @@ shape (b ∷ s) h = go (row_of table37 b) refl h
         small (x ∷ s) k = absurd (omega arith)
     made m (inr (p, l, t)) f k = wide b s l (conts m s t f k) (char_wide b s h (omega arith))
 
-    some_row : (m : List Range) (x : Bool) → row_of table37 b ≡ some m → fits m s ≡ x → len_if (some m) s ≡ suc (length s) → Shape (b ∷ s)
+    some_row : (m : List Range) (x : Bool) → row_of table37 b ≡ Some m → fits m s ≡ x → len_if (Some m) s ≡ suc (length s) → Shape (b ∷ s)
     some_row m true p q e = let y : suc (length m) ≡ suc (length s) = rw (q, len_if) at e in made m (fit table37 b m table_good p) q (omega arith)
     some_row m false p q e = absurd (let y : 0 ≡ suc (length s) = rw (q, len_if) at e in omega arith)
 
     go : (o : Option (List Range)) → row_of table37 b ≡ o → len_if o s ≡ suc (length s) → Shape (b ∷ s)
-    go none p e = absurd (omega arith)
-    go (some m) p e = some_row m (fits m s) p refl e
+    go None p e = absurd (omega arith)
+    go (Some m) p e = some_row m (fits m s) p refl e
 
 -- from 128 on the classes are 5 and 6, which every state takes alike, and a second time to no other state
 all_wide : T (below 31 (λ n. eqb (goes n 5) (goes n 6) && eqb (goes (goes n 6) 6) (goes n 6)))

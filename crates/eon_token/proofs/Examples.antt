@@ -5,11 +5,11 @@ use Prim.Native.Nat.{ℕ}
 use Rattle.eon_spec.specs.Utf8.{utf8, encode, encode_char, chars_from, chars, char_len}
 use Rattle.eon_spec.specs.Regex.{deriv, longest}
 use Rattle.eon_spec.specs.Token.{tokens_from, token_from, longest_rule, rules}
-use Rattle.eon_token.specs.Placed.{placed_at}
+use Rattle.eon_token.specs.Placed.{placed_at, code_of}
 use Rattle.eon_token.specs.declared.token_kind.PlacedToken.{PlacedToken}
 
 abbrev brief : PlacedToken → List ℕ
-brief r = r.kind ∷ r.start ∷ r.end ∷ []
+brief r = code_of r.kind ∷ r.start ∷ r.end ∷ []
 
 abbrev answers : List (List ℕ)
 answers =

@@ -1,8 +1,8 @@
+use Rattle.std.specs.Prelude.{None, Some, is_some, IsSome}
 -- For who calls the token call again and again: where a token stands, that its end is a boundary, and the token list from there on.
 use mathlib.Core.Path.{◌≡◌, refl, sym, ap, ap₂, subst, ◌∙◌}
 use mathlib.Core.Bool.{Bool, true, false, ◌||◌}
 use mathlib.Core.List.{List, [], ◌∷◌}
-use mathlib.Core.Option.{Option, none, some}
 use Prim.Native.Nat.{ℕ, suc, ◌+◌, ◌-◌, ◌≤◌, ◌<◌, pred}
 use native.Mathlib.Nat.{add_assoc}
 use native.Mathlib.Omega.{arith}
@@ -10,63 +10,14 @@ use lib.ListN.{length, take, drop}
 use lib.Seq.{drop-drop}
 use Rattle.eon_spec.specs.Base.{elem}
 use Rattle.eon_spec.specs.Utf8.{Character, chars, joined, is_utf8, Boundary}
-use Rattle.eon_spec.specs.Token.{TokenKind, Invalid, Comment, OpenList, CloseList, OpenBrace, CloseBrace, OpenParen, CloseParen, Colon, Comma, Identifier, Number, DoubleQuotedString, SingleQuotedString, MultilineBasicString, MultilineLiteralString, kind_number, Token, tokens, tokens_from, token_from, rules, longest_rule, placed}
+use Rattle.eon_spec.specs.declared.token_kind.TokenKind.{TokenKind}
+use Rattle.eon_spec.specs.Token.{tokens, tokens_from, rules, longest_rule, placed}
 use Rattle.eon_laws.proofs.Chars.{AllChars}
-use Rattle.eon_token.specs.Placed.{placed_token, placed_at, tokens_at, kind_of, token_of}
+use Rattle.eon_token.specs.Placed.{placed_at, tokens_at, token_of}
 use Rattle.eon_token.specs.declared.token_kind.PlacedToken.{PlacedToken}
-use Rattle.eon_token.proofs.Tests.{tabled, tabled_at}
+use Rattle.eon_token.proofs.KindCodes.{not_both}
 use Rattle.eon_token.proofs.Text.{bytes, prefix, bytes_le, bytes_add, all_drop, boundary_end}
 use Rattle.eon_token.proofs.Whole.{leading, size, Next, ended, token, here, here_chars, here_text, here_all, here_length, start_text, next}
-
-pub kind_of_lem : (k : TokenKind) → kind_of (kind_number k) ≡ k
-kind_of_lem Invalid = refl
-kind_of_lem Comment = refl
-kind_of_lem OpenList = refl
-kind_of_lem CloseList = refl
-kind_of_lem OpenBrace = refl
-kind_of_lem CloseBrace = refl
-kind_of_lem OpenParen = refl
-kind_of_lem CloseParen = refl
-kind_of_lem Colon = refl
-kind_of_lem Comma = refl
-kind_of_lem Identifier = refl
-kind_of_lem Number = refl
-kind_of_lem DoubleQuotedString = refl
-kind_of_lem SingleQuotedString = refl
-kind_of_lem MultilineBasicString = refl
-kind_of_lem MultilineLiteralString = refl
-
-pub kind_small : (k : TokenKind) → kind_number k < 16
-kind_small Invalid = omega arith
-kind_small Comment = omega arith
-kind_small OpenList = omega arith
-kind_small CloseList = omega arith
-kind_small OpenBrace = omega arith
-kind_small CloseBrace = omega arith
-kind_small OpenParen = omega arith
-kind_small CloseParen = omega arith
-kind_small Colon = omega arith
-kind_small Comma = omega arith
-kind_small Identifier = omega arith
-kind_small Number = omega arith
-kind_small DoubleQuotedString = omega arith
-kind_small SingleQuotedString = omega arith
-kind_small MultilineBasicString = omega arith
-kind_small MultilineLiteralString = omega arith
-
-all_numbers : tabled 16 (λ n. kind_number (kind_of n)) ≡ tabled 16 (λ n. n)
-all_numbers = refl
-
-pub number_of : (n : ℕ) → n < 16 → kind_number (kind_of n) ≡ n
-number_of n h = tabled_at 16 (λ k. kind_number (kind_of k)) (λ k. k) all_numbers n h
-
-pub kind_le : (s : List ℕ) (at : ℕ) → (placed_at s at).kind ≤ 16
-unfolding placed_at
-kind_le s at = go (token_from s at)
-  where
-    go : (t : Option Token) → (placed_token s t).kind ≤ 16
-    go none = omega arith
-    go (some t) = omega (arith, kind_small t.kind)
 
 -- the tokens of the text are those from its start on
 pub tokens_start : (s : List ℕ) → tokens s ≡ tokens_at s 0 false
@@ -88,9 +39,9 @@ module _ (s : List ℕ) (at : ℕ) (cs : List Character) (m : ℕ) (l : List Cha
   slice : joined (take n l) ≡ take (at + bytes m cs + bytes n l - (at + bytes m cs)) (drop (at + bytes m cs) s)
   slice = sym (ap (λ (i : ℕ). take i (drop (at + bytes m cs) s)) (cancel (at + bytes m cs) (bytes n l)) ∙ ap (take (bytes n l)) f ∙ prefix n l)
 
-  same_token : (k : TokenKind) (nl : Bool) → placed k n (at + bytes m cs) (nl || elem 10 (joined (take m cs))) l ≡ token_of s at nl (record { kind = kind_number k; start = at + bytes m cs; end = at + bytes m cs + bytes n l })
+  same_token : (k : TokenKind) (nl : Bool) → placed k n (at + bytes m cs) (nl || elem 10 (joined (take m cs))) l ≡ token_of s at nl (record { kind = Some k; start = at + bytes m cs; end = at + bytes m cs + bytes n l })
   same_token k nl = λ i. record {
-    kind = sym (kind_of_lem k) i;
+    kind = k;
     start = at + bytes m cs;
     end = at + bytes m cs + bytes n l;
     slice = slice i;
@@ -125,11 +76,11 @@ module _ (s : List ℕ) (u : is_utf8 s ≡ true) (at : ℕ) (b : Boundary s at) 
     abbrev pub Within : PlacedToken → Type 0
     Within x = (at ≤ x.start) × (x.start < x.end) × (x.end ≤ length s)
 
-    pub bounds : (r.kind ≡ 16 → ⊥) → Within r
+    pub bounds : IsSome r.kind → Within r
     bounds h = go (next s u at b)
       where
         go : Next s at (here s u at b) → Within r
-        go (ended z q ts) = absurd (h (ap (λ (x : PlacedToken). x.kind) (e ∙ q)))
+        go (ended z q ts) = absurd (not_both r.kind (ap (λ (x : PlacedToken). x.kind) (e ∙ q)) h)
         go (token c l f q ts) =
             let cs = here s u at b in
             let m = leading cs in
@@ -138,27 +89,27 @@ module _ (s : List ℕ) (u : is_utf8 s ≡ true) (at : ℕ) (b : Boundary s at) 
             subst Within (sym (e ∙ q)) (omega arith, omega (arith, k), omega (arith, here_length s u at b, bytes_le m cs, x, bytes_le (size (c ∷ l)) (c ∷ l)))
 
     -- at the end it stands there, and no tokens are left
-    pub at_end_lem : r.kind ≡ 16 → (r.start ≡ length s) × (r.end ≡ length s)
+    pub at_end_lem : r.kind ≡ None → (r.start ≡ length s) × (r.end ≡ length s)
     at_end_lem h = go (next s u at b)
       where
         go : Next s at (here s u at b) → (r.start ≡ length s) × (r.end ≡ length s)
         go (ended z q ts) = (ap (λ (x : PlacedToken). x.start) (e ∙ q), ap (λ (x : PlacedToken). x.end) (e ∙ q))
-        go (token c l f q ts) = absurd (omega (arith, kind_small (longest_rule rules (c ∷ l)).0, ap (λ (x : PlacedToken). x.kind) (e ∙ q)))
+        go (token c l f q ts) = absurd (not_both r.kind h (ap (λ (x : PlacedToken). is_some x.kind) (e ∙ q)))
 
-    pub tokens_none : (nl : Bool) → r.kind ≡ 16 → tokens_at s at nl ≡ []
+    pub tokens_none : (nl : Bool) → r.kind ≡ None → tokens_at s at nl ≡ []
     tokens_none nl h = go (next s u at b)
       where
         go : Next s at (here s u at b) → tokens_at s at nl ≡ []
         go (ended z q ts) = ts nl
-        go (token c l f q ts) = absurd (omega (arith, kind_small (longest_rule rules (c ∷ l)).0, ap (λ (x : PlacedToken). x.kind) (e ∙ q)))
+        go (token c l f q ts) = absurd (not_both r.kind h (ap (λ (x : PlacedToken). is_some x.kind) (e ∙ q)))
 
     -- else the tokens are the one here, and those from its end on
-    pub tokens_some : (nl : Bool) → (r.kind ≡ 16 → ⊥) → tokens_at s at nl ≡ token_of s at nl r ∷ tokens_at s r.end false
+    pub tokens_some : (nl : Bool) → IsSome r.kind → tokens_at s at nl ≡ token_of s at nl r ∷ tokens_at s r.end false
     unfolding end_of
     tokens_some nl h = go (next s u at b)
       where
         go : Next s at (here s u at b) → tokens_at s at nl ≡ token_of s at nl r ∷ tokens_at s r.end false
-        go (ended z q ts) = absurd (h (ap (λ (x : PlacedToken). x.kind) (e ∙ q)))
+        go (ended z q ts) = absurd (not_both r.kind (ap (λ (x : PlacedToken). x.kind) (e ∙ q)) h)
         go (token c l f q ts) =
             ts nl
             ∙ (λ i. same i ∷ tokens_from 0 end false (rest i))
@@ -173,7 +124,7 @@ module _ (s : List ℕ) (u : is_utf8 s ≡ true) (at : ℕ) (b : Boundary s at) 
             end : ℕ
             end = at + bytes (leading cs) cs + bytes n (c ∷ l)
 
-            same : placed (longest_rule rules (c ∷ l)).0 n (at + bytes (leading cs) cs) (nl || elem 10 (joined (take (leading cs) cs))) (c ∷ l) ≡ token_of s at nl (record { kind = kind_number (longest_rule rules (c ∷ l)).0; start = at + bytes (leading cs) cs; end = end })
+            same : placed (longest_rule rules (c ∷ l)).0 n (at + bytes (leading cs) cs) (nl || elem 10 (joined (take (leading cs) cs))) (c ∷ l) ≡ token_of s at nl (record { kind = Some (longest_rule rules (c ∷ l)).0; start = at + bytes (leading cs) cs; end = end })
             same = same_token s at cs (leading cs) (c ∷ l) n (here_text s u at b) (start_text s u at b ∙ ap joined f) (longest_rule rules (c ∷ l)).0 nl
 
             rest : drop n (c ∷ l) ≡ chars (drop end s)

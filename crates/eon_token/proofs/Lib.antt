@@ -1,6 +1,8 @@
 pub mod Tests
+pub mod KindCodes
 pub mod Auto
 pub mod Steps
+pub mod Bytes
 pub mod Longest
 pub mod Bridge
 pub mod Text

@@ -1,15 +1,17 @@
+use Rattle.std.specs.Prelude.{Option, None, Some}
 -- The longest match by derivatives: what a character leaves of the rules, and that the automaton finds the same.
 use mathlib.Core.Path.{◌≡◌, refl, sym, ap, ap₂, ◌∙◌}
 use mathlib.Core.Bool.{Bool, true, false}
 use mathlib.Core.List.{List, [], ◌∷◌, map}
-use mathlib.Core.Option.{Option, none, some}
 use Prim.Native.Nat.{ℕ, zero, suc, ◌≤◌, ◌<◌}
 use native.Mathlib.Decide.{dec_lt}
 use native.Mathlib.Omega.{arith}
 use borrow.Author.Tests.{lt-ltb, le-ltb}
 use Rattle.eon_spec.specs.Utf8.{Character, code_point}
 use Rattle.eon_spec.specs.Regex.{Regex, never, empty, one_of, none_of, ◌then◌, ◌or◌, many, is_never, nullable, deriv, longest}
-use Rattle.eon_spec.specs.Token.{TokenKind, Invalid, kind_number, Rule, ◌is◌, rules, better, longest_rule}
+use Rattle.eon_spec.specs.declared.token_kind.TokenKind.{TokenKind}
+use Rattle.eon_spec.specs.declared.token_kind.TokenKind.TheVariants.{Invalid}
+use Rattle.eon_spec.specs.Token.{kind_number, Rule, ◌is◌, rules, better, longest_rule}
 use Rattle.eon_token.specs.Machine.{Found, miss, hit, class, goes, states, accepts}
 use Rattle.eon_token.proofs.Tests.{class_small, goes_small, at_least}
 use Rattle.eon_token.proofs.Auto.{deriv_rules, words, state_of, or_mine, accept, known_number, accepted, steps}
@@ -25,8 +27,8 @@ found x = found_of x.0 x.1
 
 -- a match of no character, and one more character
 abbrev pub none_yet : Option ℕ → Found
-none_yet none = miss
-none_yet (some k) = hit k zero
+none_yet None = miss
+none_yet (Some k) = hit k zero
 
 abbrev pub up : Found → Found
 up miss = miss
@@ -111,13 +113,13 @@ module _ (k l d : TokenKind) (L : ℕ) where
       go : Dec (suc m < suc n) → found (better k (l, L) (suc (suc n))) ≡ rest (suc m) (suc n) b A
       go (yes h) = both_new (suc m) n b A (omega (arith, p)) h
       go (no h) = both_old (suc m) (suc n) b A (omega (arith, p)) (at_least h) e
-  one_rule zero zero b (some a) e = both_old zero zero b (some a) (omega (arith, short b, (is_some l L a zero e).0)) (omega arith) e
-  one_rule zero (suc n) b (some a) e = both_new zero n b (some a) (omega (arith, (is_some l L a zero e).0)) (omega arith)
-  one_rule zero (suc n) b none e = both_new zero n b none (omega (arith, is_none l L e)) (omega arith)
-  one_rule zero zero true none e =
+  one_rule zero zero b (Some a) e = both_old zero zero b (Some a) (omega (arith, short b, (is_some l L a zero e).0)) (omega arith) e
+  one_rule zero (suc n) b (Some a) e = both_new zero n b (Some a) (omega (arith, (is_some l L a zero e).0)) (omega arith)
+  one_rule zero (suc n) b None e = both_new zero n b None (omega (arith, is_none l L e)) (omega arith)
+  one_rule zero zero true None e =
       ap found (better_yes k (l, L) 1 (omega (arith, is_none l L e)))
-      ∙ sym (ap (λ (y : TokenKind × ℕ). up (first_some (found y) (none_yet (some (kind_number k))))) (better_no k (d, zero) zero (omega arith)))
-  one_rule zero zero false none e = both_old zero zero false none (omega arith) (omega arith) e
+      ∙ sym (ap (λ (y : TokenKind × ℕ). up (first_some (found y) (none_yet (Some (kind_number k))))) (better_no k (d, zero) zero (omega arith)))
+  one_rule zero zero false None e = both_old zero zero false None (omega arith) (omega arith) e
 
 -- the longest match of one character or more, or of none
 abbrev pub matched : List Rule → List Character → Found

@@ -1,13 +1,11 @@
+use Rattle.std.specs.Prelude.{IsSome}
 -- For who walks a text by its cursor: the next token of a place, and the definition's tokens from there on. Assumes nothing.
-use mathlib.Core.Path.{◌≡◌, refl, sym, ap, ◌∙◌}
+use mathlib.Core.Path.{◌≡◌, refl, sym, ap, ap₂, ◌∙◌}
 use mathlib.Core.Bool.{Bool, true, false, ◌||◌}
 use mathlib.Core.List.{List, [], ◌∷◌}
-use Prim.Native.Nat.{ℕ, suc, ◌+◌, ◌-◌, ◌≤◌, ◌<◌}
+use Prim.Native.Nat.{ℕ, ◌≤◌, ◌<◌}
 use native.Mathlib.Omega.{arith}
-use native.Mathlib.Numerals.{add-one}
 use lib.Dec.{eqb}
-use lib.ListN.{length, take, drop, get_or}
-use lib.Seq.{drop-cons}
 use borrow.Author.Tests.{eqb-true, eqb-false}
 use Rattle.eon_spec.specs.Base.{elem}
 use Rattle.eon_spec.specs.Utf8.{is_utf8}
@@ -15,10 +13,13 @@ use Rattle.eon_spec.specs.Token.{Token, kind_number}
 use Rattle.eon_spec.specs.Tree.{Span}
 use Rattle.eon_spec.specs.Parse.{behind, skip, span_of}
 use Rattle.eon_token.specs.declared.cursor.Cursor.{Cursor}
-use Rattle.eon_token.specs.Placed.{placed_at, tokens_at, token_of}
+use Rattle.eon_token.specs.Placed.{placed_at, tokens_at, token_of, code_of}
 use Rattle.eon_token.specs.Place.{Spot, span, place_of, kind_at, next_span, line_feed, cursor_behind, Standing}
+use Rattle.std.specs.List.{list_any}
+use Rattle.eon_laws.proofs.Facts.{eqb_sym}
 use Rattle.eon_token.proofs.Text.{boundary_start}
-use Rattle.eon_token.proofs.Laws.{number_of, kind_le, bounds, end_boundary, tokens_none, tokens_some}
+use Rattle.eon_token.proofs.Laws.{bounds, end_boundary, tokens_none, tokens_some}
+use Rattle.eon_token.proofs.KindCodes.{code_in, code_le, code_small, there, is_end}
 
 -- the text's start
 pub start_spot : (s : List ℕ) → is_utf8 s ≡ true → Spot s (span 0 0)
@@ -33,7 +34,7 @@ pub record Gets (s : List ℕ) (l : Span) : Type 0 where
 module _ (s : List ℕ) (l : Span) where
   pub gets : Spot s l → kind_at s l < 16 → Gets s l
   gets b h =
-      let w = bounds s b.formed l.end b.boundary (placed_at s l.end) refl (λ e. omega arith) in
+      let w = bounds s b.formed l.end b.boundary (placed_at s l.end) refl (there (placed_at s l.end).kind h) in
       record {
         behind = w.0;
         long = w.1;
@@ -46,7 +47,7 @@ module _ (s : List ℕ) (l : Span) where
       }
 
   pub kind_lt : (kind_at s l ≡ 16 → ⊥) → kind_at s l < 16
-  kind_lt n = omega (arith, n, kind_le s l.end)
+  kind_lt n = omega (arith, n, code_le (placed_at s l.end).kind)
 
   -- the next token, as the cursor and as the definition have it
   pub data Seen : Type 0 where
@@ -61,13 +62,13 @@ module _ (s : List ℕ) (l : Span) where
       go : (x : Bool) → eqb (kind_at s l) 16 ≡ x → Seen
       go true e =
           let k = eqb-true (kind_at s l) 16 e in
-          over k (tokens_none s b.formed l.end b.boundary (placed_at s l.end) refl false k)
+          over k (tokens_none s b.formed l.end b.boundary (placed_at s l.end) refl false (is_end (placed_at s l.end).kind k))
       go false e =
           let k = eqb-false (kind_at s l) 16 e in
           comes (token_of s l.end false (placed_at s l.end))
-          (tokens_some s b.formed l.end b.boundary (placed_at s l.end) refl false k)
+          (tokens_some s b.formed l.end b.boundary (placed_at s l.end) refl false (there (placed_at s l.end).kind (kind_lt k)))
           refl
-          (number_of (kind_at s l) (kind_lt k))
+          (code_in (placed_at s l.end).kind (there (placed_at s l.end).kind (kind_lt k)))
           refl
           (gets b (kind_lt k))
 
@@ -86,26 +87,14 @@ module _ (s : List ℕ) (c : Cursor) (h : Standing s c) where
   pub peeks : c.peeked ≡ placed_at s c.end
   peeks = ap (λ (y : Cursor). y.peeked) h.fresh
 
-  pub peeks_kind : c.peeked.kind ≡ kind_at s (place_of c)
-  peeks_kind = ap (λ (y : Cursor). y.peeked.kind) h.fresh
+  pub peeks_kind : code_of c.peeked.kind ≡ kind_at s (place_of c)
+  peeks_kind = ap (λ (y : Cursor). code_of y.peeked.kind) h.fresh
 
-  pub peeks_gets : c.peeked.kind < 16 → Gets s (place_of c)
-  peeks_gets k = gets s (place_of c) h.bound (omega (arith, peeks_kind))
+  pub peeks_gets : IsSome c.peeked.kind → Gets s (place_of c)
+  peeks_gets k = gets s (place_of c) h.bound (omega (arith, peeks_kind, code_small c.peeked.kind k))
 
 -- ---- a line feed between two places
 
-pub feed_none : (s : List ℕ) (b : ℕ) → false ≡ line_feed s b b
-unfolding line_feed
-feed_none s b = ap (λ (n : ℕ). elem 10 (take n (drop b s))) zero_eq
-  where
-    zero_eq : 0 ≡ b - b
-    zero_eq = omega arith
-
-pub feed_more : (s : List ℕ) (i b : ℕ) → i < b → b ≤ length s → line_feed s i b ≡ eqb 10 (get_or s i 0) || line_feed s (i + 1) b
-unfolding line_feed
-feed_more s i b h k =
-    ap (λ (n : ℕ). elem 10 (take n (drop i s))) one_more
-    ∙ ap (λ (l : List ℕ). elem 10 (take (suc (b - (i + 1))) l)) (drop-cons s i 0 (omega arith) ∙ ap (λ (n : ℕ). get_or s i 0 ∷ drop n s) (sym (add-one i)))
-  where
-    one_more : b - i ≡ suc (b - (i + 1))
-    one_more = omega arith
+pub feeds : (b : ℕ) (l : List ℕ) → list_any (λ y. eqb y b) l ≡ elem b l
+feeds b [] = refl
+feeds b (y ∷ l) = ap₂ ◌||◌ (eqb_sym y b) (feeds b l)

@@ -1,43 +1,39 @@
+use Rattle.std.specs.Prelude.{Option, Some, None, is_some}
 -- What the loops need: one more byte of a span or of the automaton's run, and where single states go.
 use mathlib.Core.Path.{◌≡◌, refl, sym, ap, ap₂, subst, ◌∙◌}
-use mathlib.Core.Bool.{Bool, true, false, not, ◌&&◌, ◌||◌, cond}
+use mathlib.Core.Logic.{◌⊎◌, inl, inr}
+use mathlib.Core.Bool.{Bool, true, false, ◌&&◌, ◌||◌, cond}
 use mathlib.Core.List.{List, [], ◌∷◌}
 use Prim.Native.Nat.{ℕ, zero, suc, ◌+◌, ◌-◌, ◌≤◌, ◌<◌}
 use native.Mathlib.Nat.{le_of_suc-le-suc, not-suc-le-zero, add-zero}
 use native.Mathlib.Numerals.{add-one}
+use native.Mathlib.Decide.{dec_lt}
 use native.Mathlib.Omega.{arith}
-use borrow.Author.Tests.{lt-leb, le-leb, le-ltb, eq-eqb, ne_eqb}
-use lib.Dec.{T, leb, ltb, eqb, eqb→eq, lit<, lit≤}
+use borrow.Author.Tests.{ne_eqb}
+use lib.Dec.{T, leb, ltb, eqb, eqb→eq, ltb→lt}
 use lib.ListN.{length, get_or, drop, drop_of_length-le}
 use lib.Seq.{drop-cons}
-use Rattle.eon_token.specs.Machine.{Found, miss, hit, class, classes, states, goes, accepts, upd, run, span_of, before, closed_at, Quote, dq, sq, one_s, inside_s, two_s, multi_s, plain_k, multi_k, finish, from_b}
+use Rattle.eon_token.specs.Machine.{Found, miss, hit, class, classes, states, goes, accepts, upd, run, in_classes, one_byte_kind, span_of, class_of, one_s, inside_s, two_s, multi_s, plain_k, multi_k, finish, from_b}
+use Rattle.eon_spec.specs.declared.token_kind.TokenKind.{TokenKind}
+use Rattle.eon_spec.specs.Token.{kind_number}
+use Rattle.eon_token.specs.Placed.{kind_of}
+use Rattle.eon_token.specs.declared.token_kind.Quote.{Quote}
+use Rattle.eon_token.specs.declared.token_kind.Quote.TheVariants.{Double, Single}
 use Rattle.eon_token.specs.declared.token_kind.PlacedToken.{PlacedToken}
-use Rattle.eon_token.proofs.Tests.{below, below_at, eq?, class_small, outside?, alone_outside, and_left, and_right, or-false}
+use Rattle.eon_token.proofs.Tests.{below, below_at, at_least, class_small, only_feed, only_double, only_backslash, and_left, and_right, or-false}
 
 module _ (text : List ℕ) (i : ℕ) where
   cons : i < length text → drop i text ≡ get_or text i 0 ∷ drop (i + 1) text
   cons h = rw (add-one, drop-cons text i 0)
 
-  pub span_in : (lo hi : ℕ) → i < length text → lo ≤ class (get_or text i 0) → class (get_or text i 0) ≤ hi → span_of lo hi (drop i text) ≡ suc (span_of lo hi (drop (i + 1) text))
-  span_in lo hi h a b = rw (cons h) (simp (le-leb lo (class (get_or text i 0)) a, le-leb (class (get_or text i 0)) hi b))
+  pub span_yes : (lo hi : ℕ) → i < length text → in_classes lo hi (get_or text i 0) ≡ true → span_of lo hi (drop i text) ≡ suc (span_of lo hi (drop (i + 1) text))
+  span_yes lo hi h e = rw (cons h) (rw e)
 
-  pub span_low : (lo hi : ℕ) → i < length text → class (get_or text i 0) < lo → span_of lo hi (drop i text) ≡ 0
-  span_low lo hi h a = rw (cons h) (simp (lt-leb lo (class (get_or text i 0)) a))
-
-  pub span_high : (lo hi : ℕ) → i < length text → lo ≤ class (get_or text i 0) → hi < class (get_or text i 0) → span_of lo hi (drop i text) ≡ 0
-  span_high lo hi h a b = rw (cons h) (simp (le-leb lo (class (get_or text i 0)) a, lt-leb (class (get_or text i 0)) hi b))
+  pub span_no : (lo hi : ℕ) → i < length text → in_classes lo hi (get_or text i 0) ≡ false → span_of lo hi (drop i text) ≡ 0
+  span_no lo hi h e = rw (cons h) (rw e)
 
   pub span_end : (lo hi : ℕ) → length text ≤ i → span_of lo hi (drop i text) ≡ 0
   span_end lo hi h = rw (drop_of_length-le text h)
-
-  pub before_here : (b : ℕ) → i < length text → get_or text i 0 ≡ b → before b (drop i text) ≡ 0
-  before_here b h e = rw (cons h) (simp (eq-eqb (get_or text i 0) b e))
-
-  pub before_on : (b : ℕ) → i < length text → (get_or text i 0 ≡ b → ⊥) → before b (drop i text) ≡ suc (before b (drop (i + 1) text))
-  before_on b h p = rw (cons h) (simp (ne_eqb (get_or text i 0) b p))
-
-  pub before_end : (b : ℕ) → length text ≤ i → before b (drop i text) ≡ 0
-  before_end b h = rw (drop_of_length-le text h)
 
   pub run_in : (n : ℕ) (best : Found) → i < length text → run n best i (drop i text) ≡ run (goes n (class (get_or text i 0))) (upd (accepts n) best i) (i + 1) (drop (i + 1) text)
   run_in n best h = ap (run n best i) (cons h)
@@ -111,29 +107,51 @@ module _ (text : List ℕ) (i : ℕ) (h : i < length text) where
   pub move : (n m k : ℕ) (best : Found) → class (get_or text i 0) ≡ k → goes n k ≡ m → accepts n ≡ 0 → run n best i (drop i text) ≡ run m best (i + 1) (drop (i + 1) text)
   move n m k best e g z = run_in text i n best h ∙ ap₂ (λ (s a : ℕ). run s (upd a best i) (i + 1) (drop (i + 1) text)) (ap (goes n) e ∙ g) z
 
-  -- inside double quotes
-  pub dq_close : class (get_or text i 0) ≡ 8 → run 16 miss i (drop i text) ≡ hit 12 (i + 1)
-  unfolding goes states accepts final?
-  dq_close e = move 16 21 8 miss e refl refl ∙ final 21 tt miss (i + 1) (drop (i + 1) text)
+-- inside double quotes, of a text of n bytes of which r are left, and b of these is the next
+module _ (n : ℕ) {r : List ℕ} {b : ℕ} {l : List ℕ} (w : length r ≤ n) (p : r ≡ b ∷ l) where
+  turn : (s m k : ℕ) → class b ≡ k → goes s k ≡ m → accepts s ≡ 0 → run s miss (n - length r) r ≡ run m miss (n - length l) l
+  turn s m k e g z =
+      let i : n - length r + 1 ≡ n - length l = omega (arith, ap length p) in
+      ap (run s miss (n - length r)) p ∙ ap₂ (λ (t a : ℕ). run t (upd a miss (n - length r)) (n - length r + 1) l) (ap (goes s) e ∙ g) z ∙ ap (λ (j : ℕ). run m miss j l) i
 
-  pub dq_escape : class (get_or text i 0) ≡ 9 → run 16 miss i (drop i text) ≡ run 18 miss (i + 1) (drop (i + 1) text)
-  unfolding goes states accepts
-  dq_escape e = move 16 18 9 miss e refl refl
+  pub dq_close : b ≡ 34 → run 16 miss (n - length r) r ≡ hit 12 (n - length l)
+  unfolding class classes goes states accepts final?
+  dq_close e = turn 16 21 8 (ap class e) refl refl ∙ final 21 tt miss (n - length l) l
 
-  pub dq_on : (class (get_or text i 0) ≡ 8 → ⊥) → (class (get_or text i 0) ≡ 9 → ⊥) → run 16 miss i (drop i text) ≡ run 16 miss (i + 1) (drop (i + 1) text)
+  pub dq_escape : b ≡ 92 → run 16 miss (n - length r) r ≡ run 18 miss (n - length l) l
+  unfolding class classes goes states accepts
+  dq_escape e = turn 16 18 9 (ap class e) refl refl
+
+  pub dq_on : (b ≡ 34 → ⊥) → (b ≡ 92 → ⊥) → run 16 miss (n - length r) r ≡ run 16 miss (n - length l) l
   unfolding goes states accepts other?
-  dq_on p q = move 16 16 (class (get_or text i 0)) miss refl (other_than 16 16 8 9 tt (class (get_or text i 0)) (class_small (get_or text i 0)) p q) refl
+  dq_on q t = turn 16 16 (class b) refl (other_than 16 16 8 9 tt (class b) (class_small b) (λ e. q (only_double b e)) (λ e. t (only_backslash b e))) refl
 
-  pub esc_stop : class (get_or text i 0) ≡ 0 → run 18 miss i (drop i text) ≡ miss
-  unfolding goes states accepts
-  esc_stop e = move 18 1 0 miss e refl refl ∙ dead miss (i + 1) (drop (i + 1) text)
+  pub esc_stop : b ≡ 10 → run 18 miss (n - length r) r ≡ miss
+  unfolding class classes goes states accepts
+  esc_stop e = turn 18 1 0 (ap class e) refl refl ∙ dead miss (n - length l) l
 
-  pub esc_on : (class (get_or text i 0) ≡ 0 → ⊥) → run 18 miss i (drop i text) ≡ run 16 miss (i + 1) (drop (i + 1) text)
+  pub esc_on : (b ≡ 10 → ⊥) → run 18 miss (n - length r) r ≡ run 16 miss (n - length l) l
   unfolding goes states accepts other?
-  esc_on p = move 18 16 (class (get_or text i 0)) miss refl (other_than 18 16 0 0 tt (class (get_or text i 0)) (class_small (get_or text i 0)) p p) refl
+  esc_on q = let f : class b ≡ 0 → ⊥ = λ e. q (only_feed b e) in turn 18 16 (class b) refl (other_than 18 16 0 0 tt (class b) (class_small b) f f) refl
 
-pub closed_suc : (k i : ℕ) → closed_at k (i + 1) ≡ hit k (i + 1)
-closed_suc k i = rw add-one
+pub dq_end : (i : ℕ) (r : List ℕ) → length r ≡ 0 → run 16 miss i r ≡ miss
+unfolding accepts states
+dq_end i [] e = refl
+dq_end i (b ∷ l) e = absurd (omega arith)
+
+pub esc_end : (i : ℕ) (r : List ℕ) → length r ≡ 0 → run 18 miss i r ≡ miss
+unfolding accepts states
+esc_end i [] e = refl
+esc_end i (b ∷ l) e = absurd (omega arith)
+
+-- the class of a quote
+pub data IsQuote : ℕ → Type 0 where
+  dq : IsQuote 8
+  sq : IsQuote 18
+
+pub is_quote : (q : Quote) → IsQuote (class_of q)
+is_quote Double = dq
+is_quote Single = sq
 
 -- inside three quotes of class q, of which n were read last
 multi? : ℕ → ℕ → ℕ → Bool
@@ -142,22 +160,22 @@ multi? q n k = eqb k q || eqb (goes (multi_s q n) k) (multi_s q 0)
 quote? : ℕ → ℕ → Bool
 quote? q n = eqb (goes (multi_s q n) q) (multi_s q (suc n)) && eqb (accepts (multi_s q n)) 0
 
-all_multi : {q : ℕ} → Quote q → T (below 3 (λ n. below 19 (multi? q n)))
+all_multi : {q : ℕ} → IsQuote q → T (below 3 (λ n. below 19 (multi? q n)))
 unfolding multi? multi_s goes states
 all_multi dq = tt
 all_multi sq = tt
 
-all_quote : {q : ℕ} → Quote q → T (below 3 (quote? q))
+all_quote : {q : ℕ} → IsQuote q → T (below 3 (quote? q))
 unfolding quote? multi_s goes states accepts
 all_quote dq = tt
 all_quote sq = tt
 
-multi_final : {q : ℕ} → Quote q → (best : Found) (i : ℕ) (l : List ℕ) → run (multi_s q 3) best i l ≡ hit (multi_k q) i
+pub multi_final : {q : ℕ} → IsQuote q → (best : Found) (i : ℕ) (l : List ℕ) → run (multi_s q 3) best i l ≡ hit (multi_k q) i
 unfolding multi_s goes states accepts final?
 multi_final dq best i l = final 29 tt best i l
 multi_final sq best i l = final 30 tt best i l
 
-module _ {q : ℕ} (quote : Quote q) (n : ℕ) (small : n < 3) where
+module _ {q : ℕ} (quote : IsQuote q) (n : ℕ) (small : n < 3) where
   quote_next : goes (multi_s q n) q ≡ multi_s q (suc n)
   unfolding quote?
   quote_next = eqb→eq (goes (multi_s q n) q) (multi_s q (suc n)) (and_left (eqb (goes (multi_s q n) q) (multi_s q (suc n))) (eqb (accepts (multi_s q n)) 0) (below_at 3 (quote? q) (all_quote quote) n small))
@@ -171,36 +189,14 @@ module _ {q : ℕ} (quote : Quote q) (n : ℕ) (small : n < 3) where
   quote_other k h p = eqb→eq (goes (multi_s q n) k) (multi_s q 0) (or-false (eqb k q) (eqb (goes (multi_s q n) k) (multi_s q 0)) (ne_eqb k q p) (below_at 19 (multi? q n) (below_at 3 (λ m. below 19 (multi? q m)) (all_multi quote) n small) k h))
 
   module _ (text : List ℕ) (i : ℕ) where
-    pub multi_next : i < length text → class (get_or text i 0) ≡ q → run (multi_s q n) miss i (drop i text) ≡ run (multi_s q (n + 1)) miss (i + 1) (drop (i + 1) text)
-    multi_next h e = move text i h (multi_s q n) (multi_s q (n + 1)) q miss e (quote_next ∙ ap (multi_s q) (sym (add-one n))) quiet
-
-    pub multi_close : i < length text → class (get_or text i 0) ≡ q → n ≡ 2 → run (multi_s q n) miss i (drop i text) ≡ hit (multi_k q) (i + 1)
-    multi_close h e z =
-        move text i h (multi_s q n) (multi_s q 3) q miss e (quote_next ∙ ap (λ (m : ℕ). multi_s q (suc m)) z) quiet
-        ∙ multi_final quote miss (i + 1) (drop (i + 1) text)
-
-    pub multi_reset : i < length text → (class (get_or text i 0) ≡ q → ⊥) → run (multi_s q n) miss i (drop i text) ≡ run (multi_s q 0) miss (i + 1) (drop (i + 1) text)
-    multi_reset h p = move text i h (multi_s q n) (multi_s q 0) (class (get_or text i 0)) miss refl (quote_other (class (get_or text i 0)) (class_small (get_or text i 0)) p) quiet
+    -- m quotes were read last behind the byte here
+    pub multi_on : i < length text → (m : ℕ) → ((class (get_or text i 0) ≡ q) × (m ≡ suc n)) ⊎ ((class (get_or text i 0) ≡ q → ⊥) × (m ≡ 0))
+        → run (multi_s q n) miss i (drop i text) ≡ run (multi_s q m) miss (i + 1) (drop (i + 1) text)
+    multi_on h m (inl (e, z)) = move text i h (multi_s q n) (multi_s q m) q miss e (quote_next ∙ ap (multi_s q) (sym z)) quiet
+    multi_on h m (inr (p, z)) = move text i h (multi_s q n) (multi_s q m) (class (get_or text i 0)) miss refl (quote_other (class (get_or text i 0)) (class_small (get_or text i 0)) p ∙ ap (multi_s q) (sym z)) quiet
 
     pub multi_end : length text ≤ i → run (multi_s q n) miss i (drop i text) ≡ miss
     multi_end h = run_end text i (multi_s q n) miss h ∙ ap (λ (a : ℕ). upd a miss i) quiet
-
--- the bytes before the first b are those of the classes lo to hi, if b alone has another
-before_span : (b lo hi : ℕ) → ((c : ℕ) → eqb c b ≡ not (leb lo (class c) && leb (class c) hi)) → (l : List ℕ) → before b l ≡ span_of lo hi l
-before_span b lo hi f [] = refl
-before_span b lo hi f (c ∷ l) = ap (λ (t : Bool). cond t 0 (suc (before b l))) (f c) ∙ at (leb lo (class c) && leb (class c) hi) (before_span b lo hi f l)
-  where
-    at : (t : Bool) → before b l ≡ span_of lo hi l → cond (not t) 0 (suc (before b l)) ≡ cond t (suc (span_of lo hi l)) 0
-    at true e = ap suc e
-    at false e = refl
-
-pub before_feed : (l : List ℕ) → before 10 l ≡ span_of 1 18 l
-unfolding outside? eq? class classes
-before_feed = before_span 10 1 18 (alone_outside 10 1 18 tt (lit< tt) (lit≤ tt) (lit≤ tt))
-
-pub before_single : (l : List ℕ) → before 39 l ≡ span_of 0 17 l
-unfolding outside? eq? class classes
-before_single = before_span 39 0 17 (alone_outside 39 0 17 tt (lit< tt) (lit≤ tt) (lit≤ tt))
 
 -- a state that stays on the classes lo to hi, and leaves for good on the others
 unfoldable pub stays? : ℕ → ℕ → ℕ → ℕ → Bool
@@ -240,15 +236,15 @@ sq_run i (b ∷ l) = at (leb 0 (class b) && leb (class b) 17) (goes 19 (class b)
       λ h. absurd (not-suc-le-zero h),
     )
 
-pub made : (k s : ℕ) {a b : ℕ} → a ≡ b → ◌≡◌ {A = PlacedToken} (record { kind = k; start = s; end = a }) (record { kind = k; start = s; end = b })
+pub made : (k : Option TokenKind) (s : ℕ) {a b : ℕ} → a ≡ b → ◌≡◌ {A = PlacedToken} (record { kind = k; start = s; end = a }) (record { kind = k; start = s; end = b })
 made k s p = λ i. record { kind = k; start = s; end = p i }
 
-one_same : {q : ℕ} → Quote q → T (below 19 (λ k. eqb k q || eqb (goes (one_s q) k) (goes (inside_s q) k)))
+one_same : {q : ℕ} → IsQuote q → T (below 19 (λ k. eqb k q || eqb (goes (one_s q) k) (goes (inside_s q) k)))
 unfolding goes states
 one_same dq = tt
 one_same sq = tt
 
-two_leaves : {q : ℕ} → Quote q → T (below 19 (λ k. eqb k q || eqb (goes (two_s q) k) 1))
+two_leaves : {q : ℕ} → IsQuote q → T (below 19 (λ k. eqb k q || eqb (goes (two_s q) k) 1))
 unfolding goes states
 two_leaves dq = tt
 two_leaves sq = tt
@@ -261,28 +257,16 @@ pub record Quoted (q : ℕ) : Type 0 where
   pub in_quiet : accepts (inside_s q) ≡ 0
   pub two_takes : (best : Found) (i : ℕ) → upd (accepts (two_s q)) best i ≡ hit (plain_k q) i
 
-pub quoted : {q : ℕ} → Quote q → Quoted q
+pub quoted : {q : ℕ} → IsQuote q → Quoted q
 unfolding goes states accepts multi_s
 quoted dq = record { start_one = refl; one_two = refl; two_three = refl; one_quiet = refl; in_quiet = refl; two_takes = λ best i. refl }
 quoted sq = record { start_one = refl; one_two = refl; two_three = refl; one_quiet = refl; in_quiet = refl; two_takes = λ best i. refl }
-
-pub other_quote : {q : ℕ} → Quote q → (q ≡ 8 → ⊥) → q ≡ 18
-other_quote dq n = absurd (n refl)
-other_quote sq n = refl
-
-pub plain_two : {q : ℕ} → Quote q → plain_k q + 2 ≡ multi_k q
-plain_two dq = refl
-plain_two sq = refl
-
-pub plain_small : {q : ℕ} → Quote q → plain_k q ≤ 13
-plain_small dq = omega arith
-plain_small sq = omega arith
 
 start_quiet : accepts 0 ≡ 0
 unfolding accepts states
 start_quiet = refl
 
-module _ {q : ℕ} (quote : Quote q) (text : List ℕ) (i : ℕ) where
+module _ {q : ℕ} (quote : IsQuote q) (text : List ℕ) (i : ℕ) where
   pub start_quote : i < length text → class (get_or text i 0) ≡ q → run 0 miss i (drop i text) ≡ run (one_s q) miss (i + 1) (drop (i + 1) text)
   start_quote h e = move text i h 0 (one_s q) q miss e (quoted quote).start_one start_quiet
 
@@ -319,54 +303,67 @@ module _ {q : ℕ} (quote : Quote q) (text : List ℕ) (i : ℕ) where
       ∙ ap (λ (f : Found). run (multi_s q 0) f (i + 1) (drop (i + 1) text)) ((quoted quote).two_takes miss i)
       ∙ run_best (multi_s q 0) (hit (plain_k q) i) (i + 1) (drop (i + 1) text)
 
-pub closed_zero : (k e : ℕ) (f : Found) → f ≡ closed_at k e → e ≡ 0 → f ≡ miss
-closed_zero k e f p z = p ∙ ap (closed_at k) z
-
-pub closed_some : (k e : ℕ) (f : Found) → f ≡ closed_at k e → (e ≡ 0 → ⊥) → f ≡ hit k e
-closed_some k zero f p z = absurd (z refl)
-closed_some k (suc e) f p z = p
-
 -- a token that was found, as the functions return it
 module _ (text : List ℕ) (start : ℕ) where
-  pub found : (k j e : ℕ) → k ≡ j → run 0 miss start (drop start text) ≡ hit j e → ◌≡◌ {A = PlacedToken} (record { kind = k; start = start; end = e }) (from_b start (drop start text))
-  found k j e i p = (λ x. record { kind = i x; start = start; end = e }) ∙ sym (ap (finish start (drop start text)) p)
+  pub found : (k : TokenKind) (j e : ℕ) → k ≡ kind_of j → run 0 miss start (drop start text) ≡ hit j e → ◌≡◌ {A = PlacedToken} (record { kind = Some k; start = start; end = e }) (from_b start (drop start text))
+  found k j e i p = (λ x. record { kind = Some (i x); start = start; end = e }) ∙ sym (ap (finish start (drop start text)) p)
 
   -- what was found by the automaton's run
   pub ran : (r : PlacedToken) (f : Found) → r ≡ finish start (drop start text) f → run 0 miss start (drop start text) ≡ f → r ≡ from_b start (drop start text)
   ran r f p q = p ∙ sym (ap (finish start (drop start text)) q)
 
 -- a quote at s, by what comes after it
-module _ {q : ℕ} (quote : Quote q) (text : List ℕ) (s : ℕ) (h : s < length text) (e : class (get_or text s 0) ≡ q) where
-  pub q_stop : length text ≤ s + 1 → run 0 miss s (drop s text) ≡ miss
-  q_stop l = start_quote quote text s h e ∙ one_end quote text (s + 1) l
+module _ {q : ℕ} (quote : IsQuote q) (text : List ℕ) (s : ℕ) (h : s < length text) (e : class (get_or text s 0) ≡ q) where
+  pub q_in : (s + 1 < length text → class (get_or text (s + 1) 0) ≡ q → ⊥) → run 0 miss s (drop s text) ≡ run (inside_s q) miss (s + 1) (drop (s + 1) text)
+  q_in p = start_quote quote text s h e ∙ at (dec_lt (s + 1) (length text))
+    where
+      at : Dec (s + 1 < length text) → run (one_s q) miss (s + 1) (drop (s + 1) text) ≡ run (inside_s q) miss (s + 1) (drop (s + 1) text)
+      at (yes l) = one_on quote text (s + 1) l (p l)
+      at (no l) = one_end quote text (s + 1) (at_least l) ∙ sym (run_end text (s + 1) (inside_s q) miss (at_least l) ∙ ap (λ (a : ℕ). upd a miss (s + 1)) (quoted quote).in_quiet)
 
-  pub q_in : s + 1 < length text → (class (get_or text (s + 1) 0) ≡ q → ⊥) → run 0 miss s (drop s text) ≡ run (inside_s q) miss (s + 1) (drop (s + 1) text)
-  q_in l p = start_quote quote text s h e ∙ one_on quote text (s + 1) l p
+  -- and t is the place behind two quotes
+  module _ (l : s + 1 < length text) (e' : class (get_or text (s + 1) 0) ≡ q) (t : ℕ) (z : t ≡ s + 1 + 1) where
+    two : run 0 miss s (drop s text) ≡ run (two_s q) miss t (drop t text)
+    two = start_quote quote text s h e ∙ one_quote quote text (s + 1) l e' ∙ ap (λ (n : ℕ). run (two_s q) miss n (drop n text)) (sym z)
 
-  module _ (l : s + 1 < length text) (e' : class (get_or text (s + 1) 0) ≡ q) where
-    pub q_two_end : length text ≤ s + 1 + 1 → run 0 miss s (drop s text) ≡ hit (plain_k q) (s + 1 + 1)
-    q_two_end m = start_quote quote text s h e ∙ one_quote quote text (s + 1) l e' ∙ two_end quote text (s + 1 + 1) m
+    pub q_two : (t < length text → class (get_or text t 0) ≡ q → ⊥) → run 0 miss s (drop s text) ≡ hit (plain_k q) t
+    q_two p = two ∙ at (dec_lt t (length text))
+      where
+        at : Dec (t < length text) → run (two_s q) miss t (drop t text) ≡ hit (plain_k q) t
+        at (yes m) = two_on quote text t m (p m)
+        at (no m) = two_end quote text t (at_least m)
 
-    pub q_two_on : s + 1 + 1 < length text → (class (get_or text (s + 1 + 1) 0) ≡ q → ⊥) → run 0 miss s (drop s text) ≡ hit (plain_k q) (s + 1 + 1)
-    q_two_on m p = start_quote quote text s h e ∙ one_quote quote text (s + 1) l e' ∙ two_on quote text (s + 1 + 1) m p
+    pub q_three : t < length text → class (get_or text t 0) ≡ q → (f : Found) → run (multi_s q 0) miss (t + 1) (drop (t + 1) text) ≡ f → run 0 miss s (drop s text) ≡ first_some f (hit (plain_k q) t)
+    q_three m e'' f p = two ∙ two_quote quote text t m e'' ∙ ap (λ (x : Found). first_some x (hit (plain_k q) t)) p
 
-    pub q_three : s + 1 + 1 < length text → class (get_or text (s + 1 + 1) 0) ≡ q → (f : Found) → run (multi_s q 0) miss (s + 1 + 1 + 1) (drop (s + 1 + 1 + 1) text) ≡ f → run 0 miss s (drop s text) ≡ first_some f (hit (plain_k q) (s + 1 + 1))
-    q_three m e'' f p =
-        start_quote quote text s h e ∙ one_quote quote text (s + 1) l e' ∙ two_quote quote text (s + 1 + 1) m e''
-        ∙ ap (λ (x : Found). first_some x (hit (plain_k q) (s + 1 + 1))) p
+-- a token of one byte
+on_mark : ℕ → Option TokenKind → Bool
+on_mark c None = true
+on_mark c (Some k) = (below 19 (final? (goes 0 c)) && eqb (accepts (goes 0 c)) (kind_number k)) && ltb 0 (kind_number k)
 
-punct? : ℕ → Bool
-punct? k = ltb k 10 || (eqb k 18 || (below 19 (final? (goes 0 k)) && eqb (accepts (goes 0 k)) (k - 8)))
+all_marks : T (below 256 (λ b. on_mark (class b) (one_byte_kind b)))
+unfolding on_mark final? goes states accepts class classes
+all_marks = tt
 
-all_punct : T (below 19 punct?)
-unfolding punct? final? goes states accepts
-all_punct = tt
+module _ (c : ℕ) (k : TokenKind) (t : T (on_mark c (Some k))) where
+  on_final : T (below 19 (final? (goes 0 c)))
+  unfolding on_mark
+  on_final = and_left (below 19 (final? (goes 0 c))) _ (and_left (below 19 (final? (goes 0 c)) && eqb (accepts (goes 0 c)) (kind_number k)) _ t)
 
+  on_kind : accepts (goes 0 c) ≡ kind_number k
+  unfolding on_mark
+  on_kind = eqb→eq _ _ (and_right (below 19 (final? (goes 0 c))) _ (and_left (below 19 (final? (goes 0 c)) && eqb (accepts (goes 0 c)) (kind_number k)) _ t))
+
+  on_some : 0 < kind_number k
+  unfolding on_mark
+  on_some = ltb→lt 0 (kind_number k) (and_right (below 19 (final? (goes 0 c)) && eqb (accepts (goes 0 c)) (kind_number k)) _ t)
+
+-- a byte that begins no token
 none? : ℕ → Bool
-none? k = eqb k 2 || (eqb k 3 || (eqb k 4 || (eqb k 7 || (eqb k 8 || (leb 10 k || eqb (goes 0 k) 1)))))
+none? b = in_classes 2 4 b || (is_some (one_byte_kind b) || (eqb b 47 || (eqb b 34 || (eqb b 39 || eqb (goes 0 (class b)) 1))))
 
-all_none : T (below 19 none?)
-unfolding none? goes states
+all_none : T (below 256 none?)
+unfolding none? goes states class classes
 all_none = tt
 
 upd_some : (a : ℕ) (best : Found) (i : ℕ) → 0 < a → upd a best i ≡ hit a i
@@ -381,53 +378,47 @@ module _ (text : List ℕ) (s : ℕ) (h : s < length text) where
   unfolding goes states accepts stays?
   ident e = starts 2 2 e refl ∙ spans 2 2 3 9 tt refl miss (s + 1) (drop (s + 1) text)
 
-  pub number_digit : class (get_or text s 0) ≡ 3 → run 0 miss s (drop s text) ≡ hit 11 (s + 1 + span_of 2 4 (drop (s + 1) text))
+  pub numbers : (class (get_or text s 0) ≡ 3) ⊎ (class (get_or text s 0) ≡ 4) → run 0 miss s (drop s text) ≡ hit 11 (s + 1 + span_of 2 4 (drop (s + 1) text))
   unfolding goes states accepts stays?
-  number_digit e = starts 3 3 e refl ∙ spans 3 2 4 10 tt refl miss (s + 1) (drop (s + 1) text)
-
-  pub number_sign : class (get_or text s 0) ≡ 4 → run 0 miss s (drop s text) ≡ hit 11 (s + 1 + span_of 2 4 (drop (s + 1) text))
-  unfolding goes states accepts stays?
-  number_sign e = starts 3 4 e refl ∙ spans 3 2 4 10 tt refl miss (s + 1) (drop (s + 1) text)
+  numbers (inl e) = starts 3 3 e refl ∙ spans 3 2 4 10 tt refl miss (s + 1) (drop (s + 1) text)
+  numbers (inr e) = starts 3 4 e refl ∙ spans 3 2 4 10 tt refl miss (s + 1) (drop (s + 1) text)
 
   module _ (e : class (get_or text s 0) ≡ 7) where
     slash : run 0 miss s (drop s text) ≡ run 4 miss (s + 1) (drop (s + 1) text)
     unfolding goes states
     slash = starts 4 7 e refl
 
-    pub slash_end : length text ≤ s + 1 → run 0 miss s (drop s text) ≡ miss
-    unfolding accepts states
-    slash_end l = slash ∙ run_end text (s + 1) 4 miss l
-
-    pub slash_on : s + 1 < length text → (class (get_or text (s + 1) 0) ≡ 7 → ⊥) → run 0 miss s (drop s text) ≡ miss
+    pub slash_one : (s + 1 < length text → class (get_or text (s + 1) 0) ≡ 7 → ⊥) → run 0 miss s (drop s text) ≡ miss
     unfolding goes states accepts other?
-    slash_on l p =
-        slash
-        ∙ move text (s + 1) l 4 1 (class (get_or text (s + 1) 0)) miss refl (other_than 4 1 7 7 tt (class (get_or text (s + 1) 0)) (class_small (get_or text (s + 1) 0)) p p) refl
-        ∙ dead miss (s + 1 + 1) (drop (s + 1 + 1) text)
+    slash_one p = slash ∙ at (dec_lt (s + 1) (length text))
+      where
+        at : Dec (s + 1 < length text) → run 4 miss (s + 1) (drop (s + 1) text) ≡ miss
+        at (yes l) =
+            move text (s + 1) l 4 1 (class (get_or text (s + 1) 0)) miss refl (other_than 4 1 7 7 tt (class (get_or text (s + 1) 0)) (class_small (get_or text (s + 1) 0)) (p l) (p l)) refl
+            ∙ dead miss (s + 1 + 1) (drop (s + 1 + 1) text)
+        at (no l) = run_end text (s + 1) 4 miss (at_least l)
 
     pub comments : s + 1 < length text → class (get_or text (s + 1) 0) ≡ 7 → run 0 miss s (drop s text) ≡ hit 1 (s + 1 + 1 + span_of 1 18 (drop (s + 1 + 1) text))
     unfolding goes states accepts stays?
     comments l e' = slash ∙ move text (s + 1) l 4 15 7 miss e' refl refl ∙ spans 15 1 18 0 tt refl miss (s + 1 + 1) (drop (s + 1 + 1) text)
 
-  pub punct : (k : ℕ) → class (get_or text s 0) ≡ k → 10 ≤ k → (k ≡ 18 → ⊥) → run 0 miss s (drop s text) ≡ hit (k - 8) (s + 1)
-  unfolding punct?
-  punct k e l p =
-      let small : k < 19 = subst (λ (j : ℕ). j < 19) e (class_small (get_or text s 0)) in
-      let t = or-false (eqb k 18) (below 19 (final? (goes 0 k)) && eqb (accepts (goes 0 k)) (k - 8)) (ne_eqb k 18 p) (or-false (ltb k 10) (eqb k 18 || (below 19 (final? (goes 0 k)) && eqb (accepts (goes 0 k)) (k - 8))) (le-ltb k 10 l) (below_at 19 punct? all_punct k small)) in
-      starts (goes 0 k) k e refl
-      ∙ final (goes 0 k) (and_left (below 19 (final? (goes 0 k))) (eqb (accepts (goes 0 k)) (k - 8)) t) miss (s + 1) (drop (s + 1) text)
-      ∙ ap (λ (a : ℕ). upd a miss (s + 1)) (eqb→eq (accepts (goes 0 k)) (k - 8) (and_right (below 19 (final? (goes 0 k))) (eqb (accepts (goes 0 k)) (k - 8)) t))
-      ∙ upd_some (k - 8) miss (s + 1) (omega arith)
+  pub marked : get_or text s 0 < 256 → (k : TokenKind) → one_byte_kind (get_or text s 0) ≡ Some k → run 0 miss s (drop s text) ≡ hit (kind_number k) (s + 1)
+  marked l k e =
+      let m = goes 0 (class (get_or text s 0)) in
+      let t : T (on_mark (class (get_or text s 0)) (Some k)) = subst (λ (o : Option TokenKind). T (on_mark (class (get_or text s 0)) o)) e (below_at 256 (λ b. on_mark (class b) (one_byte_kind b)) all_marks (get_or text s 0) l) in
+      starts m (class (get_or text s 0)) refl refl
+      ∙ final m (on_final (class (get_or text s 0)) k t) miss (s + 1) (drop (s + 1) text)
+      ∙ ap (λ (a : ℕ). upd a miss (s + 1)) (on_kind (class (get_or text s 0)) k t)
+      ∙ upd_some (kind_number k) miss (s + 1) (on_some (class (get_or text s 0)) k t)
 
-  pub nothing_starts : (k : ℕ) → class (get_or text s 0) ≡ k → (k ≡ 2 → ⊥) → (k ≡ 3 → ⊥) → (k ≡ 4 → ⊥) → (k ≡ 7 → ⊥) → (k ≡ 8 → ⊥) → k < 10 → run 0 miss s (drop s text) ≡ miss
+  pub nothing_starts : (b : ℕ) → get_or text s 0 ≡ b → b < 256 → in_classes 2 4 b ≡ false → one_byte_kind b ≡ None → (b ≡ 47 → ⊥) → (b ≡ 34 → ⊥) → (b ≡ 39 → ⊥) → run 0 miss s (drop s text) ≡ miss
   unfolding none?
-  nothing_starts k e p₂ p₃ p₄ p₇ p₈ l =
-      starts 1 k e
-      (eqb→eq (goes 0 k) 1
-      (or-false (leb 10 k) _ (lt-leb 10 k l)
-      (or-false (eqb k 8) _ (ne_eqb k 8 p₈)
-      (or-false (eqb k 7) _ (ne_eqb k 7 p₇)
-      (or-false (eqb k 4) _ (ne_eqb k 4 p₄)
-      (or-false (eqb k 3) _ (ne_eqb k 3 p₃)
-      (or-false (eqb k 2) _ (ne_eqb k 2 p₂) (below_at 19 none? all_none k (subst (λ (j : ℕ). j < 19) e (class_small (get_or text s 0)))))))))))
+  nothing_starts b z l e m p q r =
+      starts 1 (class b) (ap class z)
+      (eqb→eq (goes 0 (class b)) 1
+      (or-false (eqb b 39) _ (ne_eqb b 39 r)
+      (or-false (eqb b 34) _ (ne_eqb b 34 q)
+      (or-false (eqb b 47) _ (ne_eqb b 47 p)
+      (or-false (is_some (one_byte_kind b)) _ (ap (λ (o : Option TokenKind). is_some o) m)
+      (or-false (in_classes 2 4 b) _ e (below_at 256 none? all_none b l)))))))
       ∙ dead miss (s + 1) (drop (s + 1) text)

@@ -11,12 +11,14 @@ use Rattle.eon_laws.proofs.Facts.{lt_of, le_of_not}
 use Rattle.eon_spec.specs.Utf8.{Character, code_point}
 use Rattle.eon_spec.specs.Regex.{Regex, nullable, deriv, longest}
 use Rattle.eon_laws.proofs.Regex.{Matches, deriv_complete, nullable_complete, longest_matches}
-use Rattle.eon_spec.specs.Token.{TokenKind, Invalid, kind_number, Rule, ◌is◌, rules, better, longest_rule}
+use Rattle.eon_spec.specs.declared.token_kind.TokenKind.{TokenKind}
+use Rattle.eon_spec.specs.declared.token_kind.TokenKind.TheVariants.{Invalid}
+use Rattle.eon_spec.specs.Token.{kind_number, Rule, ◌is◌, rules, better, longest_rule}
 use Rattle.eon_token.specs.Placed.{kind_of}
 use Rattle.eon_token.specs.Machine.{class, goes, states, accepts}
 use Rattle.eon_token.proofs.Tests.{below, below_at, and_left, and_right, class_small, goes_small}
 use Rattle.eon_token.proofs.Auto.{words, deriv_rules, state_of, steps}
-use Rattle.eon_token.proofs.Laws.{kind_of_lem}
+use Rattle.eon_token.proofs.KindCodes.{kind_of_lem}
 
 -- the rule stands in the list
 abbrev pub In : Rule → List Rule → Type 0

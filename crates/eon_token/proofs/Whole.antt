@@ -1,8 +1,8 @@
+use Rattle.std.specs.Prelude.{Option, None, Some}
 -- The token of the bytes is the definition's first token of the characters.
 use mathlib.Core.Path.{◌≡◌, refl, sym, ap, ap₂, subst, ◌∙◌}
 use mathlib.Core.Bool.{Bool, true, false, not, ◌&&◌, ◌||◌, or_assoc, or-false, cond}
 use mathlib.Core.List.{List, [], ◌∷◌, ◌++◌}
-use mathlib.Core.Option.{Option, none, some}
 use Prim.Native.Nat.{ℕ, zero, suc, ◌+◌, ◌≤◌, ◌<◌, pred}
 use native.Mathlib.Nat.{add-zero}
 use native.Mathlib.Decide.{dec_lt}
@@ -13,7 +13,9 @@ use lib.ListN.{length, take, drop, length-append}
 use lib.Seq.{drop-drop}
 use Rattle.eon_spec.specs.Base.{elem}
 use Rattle.eon_spec.specs.Utf8.{Character, code_point, chars, joined, is_utf8, Boundary}
-use Rattle.eon_spec.specs.Token.{TokenKind, Invalid, kind_number, is_kind, Token, rules, longest_rule, is_space, placed, tokens_from, token_from}
+use Rattle.eon_spec.specs.declared.token_kind.TokenKind.{TokenKind}
+use Rattle.eon_spec.specs.declared.token_kind.TokenKind.TheVariants.{Invalid}
+use Rattle.eon_spec.specs.Token.{kind_number, is_kind, Token, rules, longest_rule, is_space, placed, tokens_from, token_from}
 use Rattle.eon_laws.proofs.Token.{tokens_step}
 use Rattle.eon_laws.proofs.Chars.{AllChars}
 use Rattle.eon_laws.proofs.Cut.{found_some}
@@ -22,6 +24,7 @@ use Rattle.eon_token.specs.Machine.{Found, miss, hit, classes, class, goes, acce
 use Rattle.eon_token.specs.Placed.{placed_token, placed_at, tokens_at}
 use Rattle.eon_token.specs.declared.token_kind.PlacedToken.{PlacedToken}
 use Rattle.eon_token.proofs.Tests.{below, below_at, at_least, middle, past, eq?, eq?-eq}
+use Rattle.eon_token.proofs.KindCodes.{kind_of_lem, kind_same}
 use Rattle.eon_token.proofs.Steps.{first_some, run_best}
 use Rattle.eon_token.proofs.Longest.{found_of, later, acc_f, by_table, rules_right}
 use Rattle.eon_token.proofs.Bridge.{Conts, Shape, single, wide, shape, shift, widen, bridge}
@@ -145,34 +148,34 @@ stray_width c cs (i, a) = at c (shape c i)
     at c (single b l) = ap (λ (n : ℕ). 1 + n) (no_conts cs a)
     at c (wide b w l p x) = omega (arith, conts_span w (joined cs) p, no_conts cs a, length-append w [])
 
-invalid : (cs : List Character) → (longest_rule rules cs).1 ≡ 0 → kind_number (longest_rule rules cs).0 ≡ 0
+invalid : (cs : List Character) → (longest_rule rules cs).1 ≡ 0 → (longest_rule rules cs).0 ≡ Invalid
 invalid cs z = go (is_kind (longest_rule rules cs).0 Invalid) refl
   where
-    go : (t : Bool) → is_kind (longest_rule rules cs).0 Invalid ≡ t → kind_number (longest_rule rules cs).0 ≡ 0
-    go true e = eq_of (kind_number (longest_rule rules cs).0) 0 e
+    go : (t : Bool) → is_kind (longest_rule rules cs).0 Invalid ≡ t → (longest_rule rules cs).0 ≡ Invalid
+    go true e = kind_same (longest_rule rules cs).0 Invalid (eq_of (kind_number (longest_rule rules cs).0) 0 e)
     go false e = absurd (omega (arith, found_some rules cs e))
 
 -- the number of characters of the token at the beginning
 abbrev pub size : List Character → ℕ
 size cs = suc (pred (longest_rule rules cs).1)
 
-made_all : {k k' : ℕ} (s : ℕ) {a b : ℕ} → k ≡ k' → a ≡ b → ◌≡◌ {A = PlacedToken} (record { kind = k; start = s; end = a }) (record { kind = k'; start = s; end = b })
+made_all : {k k' : Option TokenKind} (s : ℕ) {a b : ℕ} → k ≡ k' → a ≡ b → ◌≡◌ {A = PlacedToken} (record { kind = k; start = s; end = a }) (record { kind = k'; start = s; end = b })
 made_all s p q = λ i. record { kind = p i; start = s; end = q i }
 
 pub bytes_token : (start : ℕ) (c : Character) (cs : List Character) → AllChars (c ∷ cs)
-    → from_b start (joined (c ∷ cs)) ≡ record { kind = kind_number (longest_rule rules (c ∷ cs)).0; start = start; end = start + bytes (size (c ∷ cs)) (c ∷ cs) }
+    → from_b start (joined (c ∷ cs)) ≡ record { kind = Some (longest_rule rules (c ∷ cs)).0; start = start; end = start + bytes (size (c ∷ cs)) (c ∷ cs) }
 bytes_token start c cs a =
     ap (finish start (joined (c ∷ cs))) (run_is 0 start (joined (c ∷ cs)) ∙ ap (shift start) (bridge 0 (c ∷ cs) (omega arith) a ∙ ap (widen (c ∷ cs)) (sym (rules_right (c ∷ cs)))))
     ∙ at (longest_rule rules (c ∷ cs)).0 (longest_rule rules (c ∷ cs)).1 (invalid (c ∷ cs))
   where
-    at : (k : TokenKind) (n : ℕ) → (n ≡ 0 → kind_number k ≡ 0) → finish start (joined (c ∷ cs)) (shift start (widen (c ∷ cs) (found_of k n))) ≡ record { kind = kind_number k; start = start; end = start + bytes (suc (pred n)) (c ∷ cs) }
-    at k zero f = made_all start (sym (f refl)) (omega (arith, stray_width c cs a))
-    at k (suc n) f = refl
+    at : (k : TokenKind) (n : ℕ) → (n ≡ 0 → k ≡ Invalid) → finish start (joined (c ∷ cs)) (shift start (widen (c ∷ cs) (found_of k n))) ≡ record { kind = Some k; start = start; end = start + bytes (suc (pred n)) (c ∷ cs) }
+    at k zero f = made_all start (ap Some (sym (f refl))) (omega (arith, stray_width c cs a))
+    at k (suc n) f = made_all start (ap Some (kind_of_lem k)) refl
 
 -- the first of a list of tokens, as the call answers it
 abbrev head : List Token → Option Token
-head [] = none
-head (t ∷ ts) = some t
+head [] = None
+head (t ∷ ts) = Some t
 
 first_token_lem : (s : List ℕ) (at : ℕ) (ts : List Token) → tokens_at s at false ≡ ts → placed_at s at ≡ placed_token s (head ts)
 unfolding placed_at token_from
@@ -181,9 +184,9 @@ first_token_lem s at (t ∷ ts) e = rw e
 
 -- what comes at a boundary: nothing, or a token
 pub data Next (s : List ℕ) (at : ℕ) (cs : List Character) : Type 0 where
-  ended : at + bytes (leading cs) cs ≡ length s → placed_at s at ≡ record { kind = 16; start = length s; end = length s } → ((nl : Bool) → tokens_at s at nl ≡ []) → Next s at cs
+  ended : at + bytes (leading cs) cs ≡ length s → placed_at s at ≡ record { kind = None; start = length s; end = length s } → ((nl : Bool) → tokens_at s at nl ≡ []) → Next s at cs
   token : (c : Character) (l : List Character) → drop (leading cs) cs ≡ c ∷ l
-      → placed_at s at ≡ record { kind = kind_number (longest_rule rules (c ∷ l)).0; start = at + bytes (leading cs) cs; end = at + bytes (leading cs) cs + bytes (size (c ∷ l)) (c ∷ l) }
+      → placed_at s at ≡ record { kind = Some (longest_rule rules (c ∷ l)).0; start = at + bytes (leading cs) cs; end = at + bytes (leading cs) cs + bytes (size (c ∷ l)) (c ∷ l) }
       → ((nl : Bool) → tokens_at s at nl ≡ placed (longest_rule rules (c ∷ l)).0 (size (c ∷ l)) (at + bytes (leading cs) cs) (nl || elem 10 (joined (take (leading cs) cs))) (c ∷ l) ∷ tokens_from 0 (at + bytes (leading cs) cs + bytes (size (c ∷ l)) (c ∷ l)) false (drop (size (c ∷ l)) (c ∷ l)))
       → Next s at cs
 
@@ -244,11 +247,11 @@ module _ (s : List ℕ) (u : is_utf8 s ≡ true) (at : ℕ) (b : Boundary s at) 
             ∙ bytes_token (at + bytes (leading here) here) c l (subst AllChars f (all_drop (leading here) here here_all))
             ∙ sym q
 
-    pub no_token : length s ≤ start → ◌≡◌ {A = PlacedToken} (record { kind = 16; start = start; end = start }) (placed_at s at)
+    pub no_token : length s ≤ start → ◌≡◌ {A = PlacedToken} (record { kind = None; start = start; end = start }) (placed_at s at)
     no_token h = go next
       where
-        go : Next s at here → ◌≡◌ {A = PlacedToken} (record { kind = 16; start = start; end = start }) (placed_at s at)
-        go (ended z q ts) = ap (λ (n : ℕ). record { kind = 16; start = n; end = n }) (e ∙ start_is ∙ z) ∙ sym q
+        go : Next s at here → ◌≡◌ {A = PlacedToken} (record { kind = None; start = start; end = start }) (placed_at s at)
+        go (ended z q ts) = ap (λ (n : ℕ). record { kind = None; start = n; end = n }) (e ∙ start_is ∙ z) ∙ sym q
         go (token c l f q ts) = absurd (nothing c l (all_drop (leading here) here here_all) f (omega (arith, here_length, bytes_le (leading here) here, e, start_is)))
           where
             nothing : (c : Character) (l : List Character) → AllChars (drop (leading here) here) → drop (leading here) here ≡ c ∷ l → length (joined (drop (leading here) here)) ≤ 0 → ⊥

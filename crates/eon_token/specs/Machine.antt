@@ -1,7 +1,12 @@
 -- The automaton of the rules over bytes: 31 states and 19 classes, what it does with the bytes from a place on, and the parts of that
 -- which the inner functions promise. `proofs/Auto.antt` shows that it is the rules'.
-use Rattle.std.specs.Prelude.{◌&&◌, cond, List, [], ◌∷◌, ℕ, zero, suc, ◌+◌, ◌-◌, leb, ltb, eqb, get_or, drop}
+use Rattle.std.specs.Prelude.{Bool, true, false, ◌≤◌, ◌<◌, length, Option, None, ◌&&◌, cond, List, [], ◌∷◌, ℕ, zero, suc, ◌+◌, ◌-◌, leb, ltb, eqb, get_or, drop, Some}
 use Rattle.eon_spec.specs.Base.{codes}
+use Rattle.eon_spec.specs.declared.token_kind.TokenKind.{TokenKind}
+use Rattle.eon_spec.specs.declared.token_kind.TokenKind.TheVariants.{Invalid, OpenList, CloseList, OpenBrace, CloseBrace, OpenParen, CloseParen, Colon, Comma}
+use Rattle.eon_token.specs.Placed.{kind_of}
+use Rattle.eon_token.specs.declared.token_kind.Quote.{Quote}
+use Rattle.eon_token.specs.declared.token_kind.Quote.TheVariants.{Double, Single}
 use Rattle.eon_token.specs.declared.token_kind.PlacedToken.{PlacedToken}
 
 -- a rule's number and where its match ends; or no rule matches
@@ -91,25 +96,46 @@ abbrev pub run : ℕ → Found → ℕ → List ℕ → Found
 run n best i [] = upd (accepts n) best i
 run n best i (b ∷ bs) = run (goes n (class b)) (upd (accepts n) best i) (i + 1) bs
 
--- how many bytes at the beginning have a class in lo to hi
+-- a byte of a class in lo to hi, and how many such bytes stand at the beginning
+abbrev pub in_classes : ℕ → ℕ → ℕ → Bool
+in_classes lo hi b = leb lo (class b) && leb (class b) hi
+
 abbrev pub span_of : ℕ → ℕ → List ℕ → ℕ
 span_of lo hi [] = zero
-span_of lo hi (b ∷ bs) = cond (leb lo (class b) && leb (class b) hi) (suc (span_of lo hi bs)) zero
+span_of lo hi (b ∷ bs) = cond (in_classes lo hi b) (suc (span_of lo hi bs)) zero
 
--- how many bytes stand before the first b
-abbrev pub before : ℕ → List ℕ → ℕ
-before b [] = zero
-before b (c ∷ cs) = cond (eqb c b) zero (suc (before b cs))
+-- from `from` to `end` each byte passes, and the one behind does not
+pub record KeepsWhile (passes : ℕ → Bool → Type 0) (s : List ℕ) (from end : ℕ) : Type 0 where
+  pub behind : from ≤ end
+  pub within : end ≤ length s
+  pub inside : (i : ℕ) → from ≤ i → i < end → passes (get_or s i 0) true
+  pub stops : end < length s → passes (get_or s end 0) false
 
--- the end of a string of kind k, or 0 for none
-abbrev pub closed_at : ℕ → ℕ → Found
-closed_at k zero = miss
-closed_at k (suc e) = hit k (suc e)
+-- the end of a string of kind k, if there is one
+abbrev pub closed : ℕ → Option ℕ → Found
+closed k None = miss
+closed k (Some e) = hit k e
 
--- the class of a quote
-pub data Quote : ℕ → Type 0 where
-  dq : Quote 8
-  sq : Quote 18
+-- the kind of a token of one byte
+abbrev pub one_byte_kind : ℕ → Option TokenKind
+one_byte_kind b =
+    cond (eqb b 91) (Some OpenList)
+    (cond (eqb b 93) (Some CloseList)
+    (cond (eqb b 123) (Some OpenBrace)
+    (cond (eqb b 125) (Some CloseBrace)
+    (cond (eqb b 40) (Some OpenParen)
+    (cond (eqb b 41) (Some CloseParen)
+    (cond (eqb b 58) (Some Colon)
+    (cond (eqb b 44) (Some Comma) None)))))))
+
+-- a quote's byte, and its class
+abbrev pub byte_of : Quote → ℕ
+byte_of Double = 34
+byte_of Single = 39
+
+abbrev pub class_of : Quote → ℕ
+class_of Double = 8
+class_of Single = 18
 
 -- the states after one quote, inside, after two, and inside three of them by how many quotes were read last; and the kinds
 abbrev pub one_s : ℕ → ℕ
@@ -132,8 +158,8 @@ multi_k q = cond (eqb q 8) 14 15
 
 -- the token of the bytes bs, which stand at `start` and do not begin with white space
 abbrev pub finish : ℕ → List ℕ → Found → PlacedToken
-finish start bs miss = record { kind = 0; start = start; end = start + 1 + span_of 5 5 (drop 1 bs) }
-finish start bs (hit k e) = record { kind = k; start = start; end = e }
+finish start bs miss = record { kind = Some Invalid; start = start; end = start + 1 + span_of 5 5 (drop 1 bs) }
+finish start bs (hit k e) = record { kind = Some (kind_of k); start = start; end = e }
 
 abbrev pub from_b : ℕ → List ℕ → PlacedToken
 from_b start bs = finish start bs (run 0 miss start bs)

@@ -5,7 +5,7 @@ use Rattle.eon_spec.specs.Utf8.{is_utf8, Boundary}
 use Rattle.eon_spec.specs.Tree.{Span}
 use Rattle.eon_spec.specs.Parse as parse
 use Rattle.eon_token.specs.declared.cursor.Cursor.{Cursor}
-use Rattle.eon_token.specs.Placed.{placed_at, tokens_at}
+use Rattle.eon_token.specs.Placed.{placed_at, tokens_at, code_of}
 
 -- a span of a well-formed text, behind which a token may begin
 pub record Spot (s : List ℕ) (l : Span) : Type 0 where
@@ -24,8 +24,9 @@ place_of c = record { start = c.start; end = c.end }
 abbrev pub cursor_at : List ℕ → Span → Cursor
 cursor_at s l = record { start = l.start; end = l.end; peeked = placed_at s l.end }
 
+-- the number of the next token's kind, 16 at the end
 abbrev pub kind_at : List ℕ → Span → ℕ
-kind_at s l = (placed_at s l.end).kind
+kind_at s l = code_of (placed_at s l.end).kind
 
 -- the span of the next token
 abbrev pub next_span : List ℕ → Span → Span

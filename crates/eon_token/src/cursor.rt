@@ -1,5 +1,5 @@
 // The tokens of a text one after the other, each scanned once (PeekableIter of parse.rs).
-ghost use Rattle.std.specs.Prelude.{◌≡◌, true, false, ◌≤◌, ◌<◌, length};
+ghost use Rattle.std.specs.Prelude.{◌≡◌, true, false, ◌≤◌, length, IsSome};
 ghost use Rattle.eon_spec.specs.Utf8.{is_utf8};
 ghost use Rattle.eon_spec.specs.Token.{tokens};
 ghost use Rattle.eon_spec.specs.Parse.{behind, skip};
@@ -22,11 +22,10 @@ impl Cursor {
         ensures place { result ≡ cursor_at text.now (span 0 0) }
         ensures stands { stands_for text.now result ≡ behind (span 0 0) (tokens text.now) }
     {
-        let t = next_token(text, 0);
         Cursor {
             start: 0,
             end: 0,
-            peeked: t,
+            peeked: next_token(text, 0),
         }
     }
 
@@ -38,32 +37,29 @@ impl Cursor {
 
     // Behind the next token: only the token after it is scanned.
     pub fn next(self, text: &[u8]) -> Cursor
-        requires { (Standing text.now self) × (self.peeked.kind < 16) }
+        requires standing { Standing text.now self }
+        requires there { IsSome self.peeked.kind }
         ensures place { result ≡ cursor_at text.now (next_span text.now (place_of self)) }
         ensures stands { stands_for text.now result ≡ skip (stands_for text.now self) }
     {
-        let t = self.peek();
-        let end = t.end;
-        let u = next_token(text, end);
+        let PlacedToken {
+            kind: _,
+            start,
+            end,
+        } = self.peeked;
         Cursor {
-            start: t.start,
-            end: end,
-            peeked: u,
+            start,
+            end,
+            peeked: next_token(text, end),
         }
     }
 }
 
 // Does a line feed stand between two places?
 pub fn line_feed(text: &[u8], a: usize, b: usize) -> bool
-    requires { (a ≤ b) × (b ≤ length text.now) }
+    requires order { a ≤ b }
+    requires within { b ≤ length text.now }
     ensures { result ≡ line_feed text.now a b }
 {
-    let mut i = a;
-    while i < b {
-        if text[i] == 10 {
-            return true;
-        }
-        i += 1;
-    }
-    false
+    text[a..b].contains(&b'\n')
 }

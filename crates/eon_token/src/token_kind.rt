@@ -1,213 +1,175 @@
 // The tokens of a text, one after the other: the longest match of the printed rules at a place.
-ghost use Rattle.std.specs.Prelude.{◌≡◌, true, ℕ, ◌+◌, ◌≤◌, ◌<◌, length, get_or, drop};
+ghost use Rattle.std.specs.Prelude.{◌≡◌, Bool, true, false, ℕ, ◌+◌, ◌≤◌, ◌<◌, length, get_or, drop, Some, MatchBool};
 ghost use Rattle.eon_spec.specs.Utf8.{is_utf8, Boundary};
-ghost use Rattle.eon_token.specs.Placed.{placed_at};
-ghost use Rattle.eon_token.specs.Machine.{class, span_of, before, run, closed_at, Quote, inside_s, multi_s, plain_k, multi_k, Found, finish, from_b};
+ghost use Rattle.eon_token.specs.Placed.{placed_at, kind_of};
+ghost use Rattle.eon_token.specs.Machine.{class, one_byte_kind, in_classes, class_of, byte_of, run, closed, inside_s, multi_s, plain_k, multi_k, Found, finish, from_b, KeepsWhile};
 
-// kind: 1 to 15 in the order of the enum TokenKind, 0 for an invalid token, 16 at the end of the text.
-#[derive(Clone, Copy)]
+use eon_spec::TokenKind;
+
+// A token and its place in bytes; no kind at the end of the text.
+#[derive(Clone, Copy, PartialEq, Eq)]
 pub struct PlacedToken {
-    pub kind: u32,
+    pub kind: Option<TokenKind>,
     pub start: usize,
     pub end: usize,
 }
 
-// The class of a byte: 0 line feed, 1 other white space, 2 letter, 3 digit, 4 `+-.`, 5 a further byte of a character, 6 any other,
-// 7 slash, 8 double quote, 9 backslash, 10 to 17 `[]{}():,`, 18 single quote. The most frequent are told by few tests.
-fn class(b: u8) -> u8
-    ensures { result ≡ class b }
-{
-    if 97 <= b {
-        if b <= 122 {
-            return 2;
-        }
-        return high(b);
-    }
-    if b == 32 {
-        return 1;
-    }
-    if b <= 57 {
-        if 48 <= b {
-            return 3;
-        }
-        return mark(b);
-    }
-    if 65 <= b {
-        if b <= 90 {
-            return 2;
-        }
-        return mark(b);
-    }
-    mark(b)
+// The mark at both ends of a string.
+#[derive(Clone, Copy)]
+enum Quote {
+    Double,
+    Single,
 }
 
-// The class of a byte above the letters.
-fn high(b: u8) -> u8
-    requires { 122 < b }
-    ensures { result ≡ class b }
-{
-    if b < 128 {
-        return mark(b);
+impl PlacedToken {
+    fn new(kind: TokenKind, start: usize, end: usize) -> Self
+        ensures { result ≡ record { kind = Some kind; start = start; end = end } }
+    {
+        PlacedToken {
+            kind: Some(kind),
+            start,
+            end,
+        }
     }
-    if b < 192 {
-        return 5;
-    }
-    6
 }
 
-// The class of an ASCII byte that is no letter, digit or blank.
-fn mark(b: u8) -> u8
-    requires { (b < 128) × (48 ≤ b → 57 < b) × (65 ≤ b → 90 < b) × (97 ≤ b → 122 < b) }
-    ensures { result ≡ class b }
+impl Quote {
+    fn byte(self) -> u8
+        ensures { result ≡ byte_of self }
+    {
+        match self {
+            Quote::Double => b'"',
+            Quote::Single => b'\'',
+        }
+    }
+
+    // The kind of a string between one mark on each side.
+    fn plain(self) -> TokenKind
+        ensures { result ≡ kind_of (plain_k (class_of self)) }
+    {
+        match self {
+            Quote::Double => TokenKind::DoubleQuotedString,
+            Quote::Single => TokenKind::SingleQuotedString,
+        }
+    }
+
+    // The kind of a string between three marks on each side.
+    fn multiline(self) -> TokenKind
+        ensures { result ≡ kind_of (multi_k (class_of self)) }
+    {
+        match self {
+            Quote::Double => TokenKind::MultilineBasicString,
+            Quote::Single => TokenKind::MultilineLiteralString,
+        }
+    }
+}
+
+// The token at `at` or after the white space there.
+pub fn next_token(text: &[u8], at: usize) -> PlacedToken
+    requires formed { is_utf8 text.now ≡ true }
+    requires boundary { Boundary text.now at }
+    ensures { result ≡ placed_at text.now at }
+{
+    let start = end_while(text, at, is_blank);
+    if start < text.len() {
+        return lexeme(text, start);
+    }
+    PlacedToken {
+        kind: None,
+        start,
+        end: start,
+    }
+}
+
+// The token at a byte that is no white space. Text and place stay two arguments, here and below: a struct of both would be made anew,
+// and its invariant proved anew, at each step from `start` on.
+fn lexeme(text: &[u8], start: usize) -> PlacedToken
+    requires { start < length text.now }
+    ensures { result ≡ from_b start (drop start text.now) }
+{
+    let b = text[start];
+    if is_letter(b) {
+        let end = end_while(text, start + 1, is_word);
+        return PlacedToken::new(TokenKind::Identifier, start, end);
+    }
+    if is_number(b) {
+        let end = end_while(text, start + 1, is_number);
+        return PlacedToken::new(TokenKind::Number, start, end);
+    }
+    if let Some(kind) = one_byte(b) {
+        return PlacedToken::new(kind, start, start + 1);
+    }
+    match b {
+        b'/' => slash(text, start),
+        b'"' => quoted(text, start, Quote::Double),
+        b'\'' => quoted(text, start, Quote::Single),
+        _ => stray(text, start),
+    }
+}
+
+// The kind of a token of one byte.
+fn one_byte(b: u8) -> Option<TokenKind>
+    ensures { result ≡ one_byte_kind b }
 {
     match b {
-        10 => 0,
-        9 => 1,
-        12 => 1,
-        13 => 1,
-        32 => 1,
-        34 => 8,
-        39 => 18,
-        40 => 14,
-        41 => 15,
-        43 => 4,
-        44 => 17,
-        45 => 4,
-        46 => 4,
-        47 => 7,
-        58 => 16,
-        91 => 10,
-        92 => 9,
-        93 => 11,
-        95 => 2,
-        123 => 12,
-        125 => 13,
-        _ => 6,
+        b'[' => Some(TokenKind::OpenList),
+        b']' => Some(TokenKind::CloseList),
+        b'{' => Some(TokenKind::OpenBrace),
+        b'}' => Some(TokenKind::CloseBrace),
+        b'(' => Some(TokenKind::OpenParen),
+        b')' => Some(TokenKind::CloseParen),
+        b':' => Some(TokenKind::Colon),
+        b',' => Some(TokenKind::Comma),
+        _ => None,
     }
 }
 
-// The end of the bytes from `from` whose classes are in lo to hi.
-fn span(text: &[u8], from: usize, lo: u8, hi: u8) -> usize
-    requires { from ≤ length text.now }
-    ensures { (result ≡ from + span_of lo hi (drop from text.now)) × (result ≤ length text.now) }
+// The token at a slash: a comment if there are two.
+fn slash(text: &[u8], start: usize) -> PlacedToken
+    requires within { start < length text.now }
+    requires slash { get_or text.now start 0 ≡ 47 }
+    ensures { result ≡ from_b start (drop start text.now) }
 {
-    let mut i = from;
-    while i < text.len() {
-        let k = class(text[i]);
-        if k < lo {
-            return i;
-        }
-        if hi < k {
-            return i;
-        }
-        i += 1;
+    let next = start + 1;
+    if !stands(text, next, b'/') {
+        return stray(text, start);
     }
-    i
+    let end = end_while(text, next + 1, |b| b != b'\n');
+    PlacedToken::new(TokenKind::Comment, start, end)
 }
 
-// The end of the white space from `from` on. Most bytes behind it are above the blank, and are told by one test.
-fn skip_blanks(text: &[u8], from: usize) -> usize
-    requires { from ≤ length text.now }
-    ensures { (result ≡ from + span_of 0 1 (drop from text.now)) × (result ≤ length text.now) }
+// The token at a quote.
+fn quoted(text: &[u8], start: usize, quote: Quote) -> PlacedToken
+    requires within { start < length text.now }
+    requires quote { get_or text.now start 0 ≡ byte_of quote }
+    ensures { result ≡ from_b start (drop start text.now) }
 {
-    let mut i = from;
-    while i < text.len() {
-        if 32 < text[i] {
-            return i;
-        }
-        if 1 < class(text[i]) {
-            return i;
-        }
-        i += 1;
+    let inside = start + 1;
+    if stands(text, inside, quote.byte()) {
+        return twice(text, start, quote);
     }
-    i
+    match close(text, inside, quote) {
+        Some(end) => PlacedToken::new(quote.plain(), start, end),
+        None => stray(text, start),
+    }
 }
 
-// The first byte b from `from` on, or the text's end.
-fn find(text: &[u8], from: usize, b: u8) -> usize
-    requires { from ≤ length text.now }
-    ensures { (result ≡ from + before b (drop from text.now)) × (result ≤ length text.now) }
+// The token at two quotes: the empty string, or a string between three quotes if there is its end.
+fn twice(text: &[u8], start: usize, quote: Quote) -> PlacedToken
+    requires within { start + 1 < length text.now }
+    requires first { get_or text.now start 0 ≡ byte_of quote }
+    requires second { get_or text.now (start + 1) 0 ≡ byte_of quote }
+    ensures { result ≡ from_b start (drop start text.now) }
 {
-    let mut i = from;
-    while i < text.len() {
-        if text[i] == b {
-            return i;
-        }
-        i += 1;
+    let end = start + 2;
+    let empty = PlacedToken::new(quote.plain(), start, end);
+    if !stands(text, end, quote.byte()) {
+        return empty;
     }
-    i
-}
-
-// The end of a double-quoted string whose inside starts at `from`: past the first double quote that no backslash takes; 0 if there is none.
-fn close_double(text: &[u8], from: usize) -> usize
-    requires { from ≤ length text.now }
-    ensures { run 16 Found.miss from (drop from text.now) ≡ closed_at 12 result }
-{
-    let mut i = from;
-    while i < text.len() {
-        if text[i] == 34 {
-            return i + 1;
-        }
-        if text[i] != 92 {
-            i += 1;
-            continue;
-        }
-        let taken = i + 1;
-        if text.len() <= taken {
-            return 0;
-        }
-        if text[taken] == 10 {
-            return 0;
-        }
-        i = taken + 1;
+    match close_triple(text, end + 1, quote) {
+        Some(close) => PlacedToken::new(quote.multiline(), start, close),
+        None => empty,
     }
-    0
-}
-
-// The end of a string with one quote of class q on each side, whose inside starts at `from`; 0 if there is none.
-fn close_one(text: &[u8], from: usize, q: u8) -> usize
-    requires { (from ≤ length text.now) × Quote q }
-    ensures { run (inside_s q) Found.miss from (drop from text.now) ≡ closed_at (plain_k q) result }
-{
-    if q == 8 {
-        return close_double(text, from);
-    }
-    let end = find(text, from, 39);
-    if text.len() <= end {
-        return 0;
-    }
-    end + 1
-}
-
-// The quote of class q: no other byte has that class.
-fn quote(q: u8) -> u8
-    requires { Quote q }
-    ensures { (class result ≡ q) × ((c : ℕ) → class c ≡ q → c ≡ result) }
-{
-    if q == 8 { 34 } else { 39 }
-}
-
-// The end of a string whose inside starts at `from`: past the first three quotes of class q in a row; 0 if there are none.
-fn close_triple(text: &[u8], from: usize, q: u8) -> usize
-    requires { (from ≤ length text.now) × Quote q }
-    ensures { run (multi_s q 0) Found.miss from (drop from text.now) ≡ closed_at (multi_k q) result }
-{
-    let b = quote(q);
-    let mut i = from;
-    let mut quotes: u8 = 0;
-    while i < text.len() {
-        let c = text[i];
-        i += 1;
-        if c == b {
-            if quotes == 2 {
-                return i;
-            }
-            quotes += 1;
-            continue;
-        }
-        quotes = 0;
-    }
-    0
 }
 
 // The character at `start` as an invalid token.
@@ -215,122 +177,135 @@ fn stray(text: &[u8], start: usize) -> PlacedToken
     requires { start < length text.now }
     ensures { result ≡ finish start (drop start text.now) Found.miss }
 {
-    let kind = 0;
-    let end = span(text, start + 1, 5, 5);
-    PlacedToken { kind, start, end }
+    let end = end_while(text, start + 1, is_further);
+    PlacedToken::new(TokenKind::Invalid, start, end)
 }
 
-// The token at two quotes of class q: the empty string of the kind k, or a string between three quotes if there is its end.
-fn twice(text: &[u8], start: usize, q: u8, k: u32) -> PlacedToken
-    requires { (start + 1 < length text.now) × Quote q × (k ≡ plain_k q) × (class (get_or text.now start 0) ≡ q) × (class (get_or text.now (start + 1) 0) ≡ q) }
-    ensures { result ≡ from_b start (drop start text.now) }
+// The end of a string with one quote on each side, whose inside starts at `from`.
+fn close(text: &[u8], from: usize, quote: Quote) -> Option<usize>
+    requires { from ≤ length text.now }
+    ensures { run (inside_s (class_of quote)) Found.miss from (drop from text.now) ≡ closed (plain_k (class_of quote)) result }
 {
-    let kind = k;
-    let one = start + 1;
-    let end = one + 1;
-    if text.len() <= end {
-        return PlacedToken { kind, start, end };
+    match quote {
+        Quote::Double => close_double(text, from),
+        Quote::Single => close_single(text, from),
     }
-    if class(text[end]) != q {
-        return PlacedToken { kind, start, end };
-    }
-    let close = close_triple(text, end + 1, q);
-    if close == 0 {
-        return PlacedToken { kind, start, end };
-    }
-    let kind = k + 2;
-    let end = close;
-    PlacedToken { kind, start, end }
 }
 
-// The token at a quote of class q; k is the kind of a string between two of them.
-fn quoted(text: &[u8], start: usize, q: u8, k: u32) -> PlacedToken
-    requires { (start < length text.now) × Quote q × (k ≡ plain_k q) × (class (get_or text.now start 0) ≡ q) }
-    ensures { result ≡ from_b start (drop start text.now) }
+// The end of a double-quoted string whose inside starts at `from`: past the first double quote that no backslash takes.
+fn close_double(text: &[u8], from: usize) -> Option<usize>
+    requires { from ≤ length text.now }
+    ensures { run 16 Found.miss from (drop from text.now) ≡ closed 12 result }
 {
-    let kind = k;
-    let one = start + 1;
-    if text.len() <= one {
-        return stray(text, start);
+    let mut rest = &text[from..];
+    while let Some((b, tail)) = rest.split_first() {
+        match *b {
+            b'"' => return Some(text.len() - tail.len()),
+            b'\\' => {
+                let (taken, behind) = tail.split_first()?;
+                if *taken == b'\n' {
+                    return None;
+                }
+                rest = behind;
+            }
+            _ => rest = tail,
+        }
     }
-    if class(text[one]) == q {
-        return twice(text, start, q, k);
-    }
-    let end = close_one(text, one, q);
-    if end == 0 {
-        return stray(text, start);
-    }
-    PlacedToken { kind, start, end }
+    None
 }
 
-// The token at a slash: a comment if there are two.
-fn slash(text: &[u8], start: usize) -> PlacedToken
-    requires { (start < length text.now) × (class (get_or text.now start 0) ≡ 7) }
-    ensures { result ≡ from_b start (drop start text.now) }
+// The end of a single-quoted string whose inside starts at `from`: past the first single quote.
+fn close_single(text: &[u8], from: usize) -> Option<usize>
+    requires { from ≤ length text.now }
+    ensures { run 19 Found.miss from (drop from text.now) ≡ closed 13 result }
 {
-    let next = start + 1;
-    if text.len() <= next {
-        return stray(text, start);
+    let end = end_while(text, from, |b| b != b'\'');
+    if end < text.len() {
+        Some(end + 1)
+    } else {
+        None
     }
-    if class(text[next]) != 7 {
-        return stray(text, start);
-    }
-    let kind = 1;
-    let end = find(text, next + 1, 10);
-    PlacedToken { kind, start, end }
 }
 
-// The token at `start`, of the kind `kind`, that goes on as long as the classes are in 2 to hi.
-fn word(text: &[u8], start: usize, hi: u8, kind: u32) -> PlacedToken
-    requires { start < length text.now }
-    ensures { result ≡ finish start (drop start text.now) (Found.hit kind (start + 1 + span_of 2 hi (drop (start + 1) text.now))) }
+// The end of a string whose inside starts at `from`: past the first three quotes in a row.
+fn close_triple(text: &[u8], from: usize, quote: Quote) -> Option<usize>
+    requires { from ≤ length text.now }
+    ensures { run (multi_s (class_of quote) 0) Found.miss from (drop from text.now) ≡ closed (multi_k (class_of quote)) result }
 {
-    let end = span(text, start + 1, 2, hi);
-    PlacedToken { kind, start, end }
+    let mark = quote.byte();
+    let mut marks: u8 = 0;
+    for i in from..text.len() {
+        if text[i] != mark {
+            marks = 0;
+            continue;
+        }
+        if marks == 2 {
+            return Some(i + 1);
+        }
+        marks += 1;
+    }
+    None
 }
 
-// The token at a byte that is no white space.
-fn lexeme(text: &[u8], start: usize) -> PlacedToken
-    requires { start < length text.now }
-    ensures { result ≡ from_b start (drop start text.now) }
+// Does the byte b stand at i?
+fn stands(text: &[u8], i: usize, b: u8) -> bool
+    ensures { MatchBool result ((i < length text.now) × (get_or text.now i 0 ≡ b)) (i < length text.now → get_or text.now i 0 ≡ b → ⊥) }
 {
-    let k = class(text[start]);
-    if k == 2 {
-        return word(text, start, 3, 10);
-    }
-    if k == 3 {
-        return word(text, start, 4, 11);
-    }
-    if k == 4 {
-        return word(text, start, 4, 11);
-    }
-    if k == 7 {
-        return slash(text, start);
-    }
-    if k == 8 {
-        return quoted(text, start, 8, 12);
-    }
-    if k == 18 {
-        return quoted(text, start, 18, 13);
-    }
-    if k < 10 {
-        return stray(text, start);
-    }
-    let kind = k as u32 - 8;
-    let end = start + 1;
-    PlacedToken { kind, start, end }
+    i < text.len() && text[i] == b
 }
 
-// The token at `at` or after the white space there.
-pub fn next_token(text: &[u8], at: usize) -> PlacedToken
-    requires { (is_utf8 text.now ≡ true) × Boundary text.now at }
-    ensures { result ≡ placed_at text.now at }
+// The end of the bytes from `from` on of which `inside` holds.
+fn end_while<F: Fn(u8) -> bool>(text: &[u8], from: usize, inside: F) -> usize
+    requires within { from ≤ length text.now }
+    requires callable { F.IsAlwaysCallable inside }
+    ensures ends { KeepsWhile (F.post inside) text.now from result }
 {
-    let start = skip_blanks(text, at);
-    if start < text.len() {
-        return lexeme(text, start);
+    for i in from..text.len() {
+        if !inside(text[i]) {
+            return i;
+        }
     }
-    let kind = 16;
-    let end = start;
-    PlacedToken { kind, start, end }
+    text.len()
+}
+
+#[tactic(auto, using(crate::proofs::Bytes::blank_is))]
+fn is_blank(b: u8) -> bool
+    ensures { result ≡ in_classes 0 1 b }
+{
+    b == b' ' || matches!(b, b'\t' | b'\n' | b'\x0C' | b'\r')
+}
+
+// A byte that an identifier begins with.
+#[tactic(auto, using(crate::proofs::Bytes::letter_is))]
+fn is_letter(b: u8) -> bool
+    ensures { result ≡ in_classes 2 2 b }
+{
+    b.is_ascii_lowercase() || b.is_ascii_uppercase() || b == b'_'
+}
+
+// A byte of an identifier. The most frequent are told by two tests.
+#[tactic(auto, using(crate::proofs::Bytes::word_is))]
+fn is_word(b: u8) -> bool
+    ensures { result ≡ in_classes 2 3 b }
+{
+    if b'a' <= b {
+        return b <= b'z';
+    }
+    is_letter(b) || b.is_ascii_digit()
+}
+
+// A byte of a number.
+#[tactic(auto, using(crate::proofs::Bytes::number_is))]
+fn is_number(b: u8) -> bool
+    ensures { result ≡ in_classes 2 4 b }
+{
+    is_word(b) || b == b'.' || b == b'-' || b == b'+'
+}
+
+// A byte of a character behind its first.
+#[tactic(auto, using(crate::proofs::Bytes::further_is))]
+fn is_further(b: u8) -> bool
+    ensures { result ≡ in_classes 5 5 b }
+{
+    0x80 <= b && b < 0xC0
 }

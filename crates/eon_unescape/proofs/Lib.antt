@@ -1,4 +1,6 @@
+pub mod Hex
 pub mod Kept
-pub mod Writes
+pub mod Lists
 pub mod Places
 pub mod Runs
+pub mod Writes

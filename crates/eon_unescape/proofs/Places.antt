@@ -1,18 +1,37 @@
--- A text cut at an ASCII byte, and the bytes between two places.
+-- A text cut at an ASCII byte.
 use mathlib.Core.Path.{◌≡◌, refl, sym, ap, ◌∙◌}
 use mathlib.Core.Logic.{◌⊎◌, inl, inr}
 use mathlib.Core.List.{List, [], ◌∷◌, ◌++◌}
-use Prim.Native.Nat.{ℕ, zero, suc, ◌+◌, ◌-◌, ◌≤◌, ◌<◌}
+use Prim.Native.Nat.{ℕ, zero, suc, ◌+◌, ◌/◌, ◌%◌, ◌≤◌, ◌<◌}
 use native.Mathlib.Omega.{arith}
 use native.Mathlib.Decide.{dec_le, dec_lt}
-use lib.ListN.{length, get_or, drop, take, length-append, take-append-drop, length-drop, get_or-append}
-use lib.Seq.{take-suc, take-append_seam, drop-append_seam, take-append-le, drop-append-le, get_or-drop, get_or-append_seam, length-take-le}
+use borrow.Author.Tests.{lt-ltb, le-ltb}
+use lib.ListN.{length, get_or, drop, take, length-append, take-append-drop, get_or-append}
+use lib.Seq.{take-append_seam, drop-append_seam, take-append-le, drop-append-le, get_or-append_seam}
 use Rattle.eon_spec.specs.Utf8.{Character, chars, well_formed_from, well_formed_len, joined, code_point, encode_char}
 use Rattle.eon_laws.proofs.Utf8.{chars_concat}
 use Rattle.eon_laws.proofs.Chars.{IsChar, AllChars, chars_are, all_formed}
 use Rattle.eon_laws.proofs.Encode.{char_encoded}
-use Rattle.eon_unescape.specs.Views.{between, Formed}
-use Rattle.eon_unescape.proofs.Writes.{encode_one, encode_two, encode_three, encode_four}
+use Rattle.eon_unescape.specs.Views.{Formed}
+
+-- ---- the bytes of a character, by its size
+
+module _ (c : ℕ) where
+  pub encode_one : c < 0x80 → encode_char c ≡ c ∷ []
+  unfolding encode_char
+  encode_one h = rw (lt-ltb c 0x80 h, encode_char)
+
+  pub encode_two : 0x80 ≤ c → c < 0x800 → encode_char c ≡ (0xC0 + c / 64) ∷ (0x80 + c % 64) ∷ []
+  unfolding encode_char
+  encode_two h k = rw (le-ltb c 0x80 h, encode_char) (rw (lt-ltb c 0x800 k))
+
+  pub encode_three : 0x800 ≤ c → c < 0x10000 → encode_char c ≡ (0xE0 + c / 4096) ∷ (0x80 + (c / 64) % 64) ∷ (0x80 + c % 64) ∷ []
+  unfolding encode_char
+  encode_three h k = rw (le-ltb c 0x80 (omega arith), encode_char) (rw (le-ltb c 0x800 h) (rw (lt-ltb c 0x10000 k)))
+
+  pub encode_four : 0x10000 ≤ c → encode_char c ≡ (0xF0 + c / 262144) ∷ (0x80 + (c / 4096) % 64) ∷ (0x80 + (c / 64) % 64) ∷ (0x80 + c % 64) ∷ []
+  unfolding encode_char
+  encode_four h = rw (le-ltb c 0x80 (omega arith), encode_char) (rw (le-ltb c 0x800 (omega arith)) (rw (le-ltb c 0x10000 h)))
 
 -- ---- a character is an ASCII byte, or has none
 
@@ -90,22 +109,6 @@ module _ (b : ℕ) (t : List ℕ) (k : b < 128) where
       let r = cut_at (chars s) a (chars_are 0 s) (chars_concat 0 s (omega arith) f) in
       (rw r.2 at (all_formed r.0 r.4), rw r.3 at (all_formed r.1 r.5))
 
--- ---- the bytes between two places
-
-pub between_last : (s : List ℕ) (i at : ℕ) → i < at → at ≤ length s → between s i at ≡ between s i (at - 1) ++ (get_or s (at - 1) 0 ∷ [])
-between_last s i at h k =
-    let z : at - i ≡ suc (at - 1 - i) = omega arith in
-    let y : i + (at - 1 - i) ≡ at - 1 = omega arith in
-    ap (λ (m : ℕ). take m (drop i s)) z
-    ∙ take-suc (drop i s) (at - 1 - i) 0 (omega (arith, length-drop i s))
-    ∙ ap (λ (b : ℕ). between s i (at - 1) ++ (b ∷ [])) (get_or-drop i s (at - 1 - i) 0 ∙ ap (λ (m : ℕ). get_or s m 0) y)
-
-pub nothing_between : (s : List ℕ) (i e : ℕ) → e ≤ i → between s i e ≡ []
-nothing_between s i e h = let z : e - i ≡ 0 = omega arith in rw z
-
 pub no_bytes : Formed []
 unfolding well_formed_len well_formed_from
 no_bytes = refl
-
-pub length_between : (s : List ℕ) (i t : ℕ) → t ≤ length s → length (between s i t) ≡ t - i
-length_between s i t h = length-take-le (t - i) (drop i s) (omega (arith, length-drop i s))

@@ -1,31 +1,37 @@
--- Bytes that stand for themselves: ASCII bytes as characters, and runs up to a backslash or a carriage return.
+-- Bytes that stand for themselves: runs up to a backslash or a carriage return.
 use mathlib.Core.Path.{◌≡◌, refl, sym, ap, ◌∙◌}
 use mathlib.Core.Logic.{◌⊎◌, inl, inr}
-use mathlib.Core.Bool.{false}
+use mathlib.Core.Bool.{Bool, true, false}
 use mathlib.Core.List.{List, [], ◌∷◌, ◌++◌, map, append-nil}
 use Prim.Native.Nat.{ℕ, suc, ◌+◌, ◌-◌, ◌/◌, ◌%◌, ◌≤◌, ◌<◌}
 use native.Mathlib.Omega.{arith}
 use native.Mathlib.Decide.{dec_lt}
 use borrow.Author.Tests.{eq-eqb, ne_eqb, eqb-false}
 use lib.Dec.{eqb}
-use lib.ListN.{length, get_or, drop, set, length-append, take-append-drop, drop_of_length-le}
-use lib.Seq.{sets, length-sets, drop-cons, drop-drop}
+use lib.ListN.{length, get_or, drop, take, length-append, take-append-drop, drop_of_length-le}
+use lib.Seq.{sets, drop-cons, length-take-le}
+use Rattle.std.specs.Prelude.{Result, Ok}
+use Rattle.std.specs.List.{take_while}
+use Rattle.std.proofs.lemmas.Bool.Decides.{nat_tests}
+use Rattle.std.proofs.lemmas.List.Sums.{take_while-cons}
 use Rattle.eon_spec.specs.Base.{elem}
 use Rattle.eon_spec.specs.Utf8.{Character, chars, well_formed_len, code_point, decode, encode_char, encode, is_utf8}
 use Rattle.eon_spec.specs.Unquote.{value, push, unescape, plain, without}
 use Rattle.eon_spec.specs.Unquote as unquoting
+use Rattle.eon_spec.specs.declared.refusal.Reason.{Reason}
 use Rattle.eon_laws.proofs.Facts.{nor_left, nor_right, elem_append}
 use Rattle.eon_laws.proofs.Utf8.{chars_append}
 use Rattle.eon_laws.proofs.Encode.{encode_decode}
 use Rattle.eon_laws.proofs.Shown.{without_none}
-use Rattle.eon_escape.specs.Views.{reads_by}
-use Rattle.eon_unescape.specs.Views.{kept, between, Formed, Reads, RunIs, CopiedIs}
-use Rattle.eon_escape.specs.declared.Mode.{Mode}
-use Rattle.eon_escape.specs.declared.Mode.TheVariants.{Literal, Plain}
-use Rattle.eon_escape.proofs.Steps.{plain_on}
-use Rattle.eon_unescape.proofs.Writes.{encode_one, encode_two, encode_three, encode_four, sets_append, reads_push, same_as}
-use Rattle.eon_unescape.proofs.Places.{ascii_cuts, between_last, nothing_between, no_bytes, length_between}
-use Rattle.eon_escape.proofs.Lists.{without_append, or_nothing}
+use Rattle.eon_unescape.specs.Modes.{reads_by}
+use Rattle.eon_unescape.specs.Views.{kept, Formed, Reads, is_bare, RunIs}
+use Rattle.eon_unescape.specs.declared.mode.Mode.{Mode}
+use Rattle.eon_unescape.specs.declared.mode.Mode.TheVariants.{Literal, Plain}
+use Rattle.eon_unescape.specs.declared.Next.{Next}
+use Rattle.eon_utf8.proofs.Formed.{rest}
+use Rattle.eon_unescape.proofs.Writes.{sets_append, reads_push, same_as}
+use Rattle.eon_unescape.proofs.Places.{encode_one, encode_two, encode_three, encode_four, ascii_cuts, no_bytes}
+use Rattle.eon_unescape.proofs.Lists.{without_append, or_nothing}
 
 elem_char : (x c : ℕ) → x < 128 → elem x (encode_char c) ≡ eqb x c
 elem_char x c h = one (dec_lt c 0x80)
@@ -63,6 +69,10 @@ abbrev pushes : List ℕ → unquoting.Unescaped → unquoting.Unescaped
 pushes [] w = w
 pushes (c ∷ d) w = push c (pushes d w)
 
+plain_on : (c : ℕ) (s : List ℕ) → (c ≡ 92 → ⊥) → unescape plain (c ∷ s) ≡ push c (unescape plain s)
+unfolding unescape
+plain_on c s e = rw (ne_eqb c 92 e, unescape)
+
 pushes_value : (d u : List ℕ) → value (d ++ u) ≡ pushes d (value u)
 pushes_value [] u = refl
 pushes_value (c ∷ d) u = ap (push c) (pushes_value d u)
@@ -89,99 +99,103 @@ decode_append : (a b : List ℕ) → Formed a → decode (a ++ b) ≡ decode a +
 unfolding decode chars well_formed_len
 decode_append a b f = ap (map code_point) (chars_append 0 a b (omega arith) f) ∙ points_append (chars a) (chars b)
 
-module _ (s : List ℕ) (i e : ℕ) (x : RunIs s i e) (f : Formed (drop i s)) where
-  run_cut : drop i s ≡ between s i e ++ drop e s
-  run_cut =
-      let z : i + (e - i) ≡ e = omega (arith, x.onward) in
-      sym (take-append-drop (e - i) (drop i s)) ∙ ap (λ (l : List ℕ). between s i e ++ l) (drop-drop (e - i) i s ∙ ap (λ (k : ℕ). drop k s) z)
+-- bytes before a backslash, a carriage return or the end
+record Bare (s : List ℕ) (n : ℕ) : Type 0 where
+  within : n ≤ length s
+  ends : n < length s → get_or s n 0 < 0x80
+  no_return : elem 13 (take n s) ≡ false
+  no_backslash : elem 92 (take n s) ≡ false
 
-  run_formed : Formed (between s i e) × Formed (drop e s)
-  run_formed = go (dec_lt e (length s))
+abbrev bare_len : List ℕ → ℕ
+bare_len s = length (take_while is_bare s)
+
+neither : (b : ℕ) → is_bare b ≡ true → (eqb 13 b ≡ false) × (eqb 92 b ≡ false)
+neither b e = (grind (arith, nat_tests), grind (arith, nat_tests))
+
+either : (b : ℕ) → is_bare b ≡ false → b < 128
+either b e = grind (arith, nat_tests)
+
+bare : (s : List ℕ) → Bare s (bare_len s)
+bare [] = record { within = omega arith; ends = λ h. absurd (omega arith); no_return = refl; no_backslash = refl }
+bare (b ∷ s) = go (is_bare b) refl (bare s)
+  where
+    go : (p : Bool) → is_bare b ≡ p → Bare s (bare_len s) → Bare (b ∷ s) (bare_len (b ∷ s))
+    go true e r = rw (take_while-cons is_bare b s, e) (record {
+      within = omega (arith, r.within);
+      ends = λ h. r.ends (omega arith);
+      no_return = rw (neither b e).0 r.no_return;
+      no_backslash = rw (neither b e).1 r.no_backslash;
+    })
+    go false e r = rw (take_while-cons is_bare b s, e) (record { within = omega arith; ends = λ h. either b e; no_return = refl; no_backslash = refl })
+
+module _ (s : List ℕ) (n : ℕ) (x : Bare s n) (f : Formed s) where
+  run_formed : Formed (take n s) × Formed (drop n s)
+  run_formed = go (dec_lt n (length s))
     where
-      whole : Formed (between s i e ++ drop e s)
-      whole = rw (← run_cut) f
+      whole : Formed (take n s ++ drop n s)
+      whole = rw (take-append-drop n s) f
 
-      go : Dec (e < length s) → Formed (between s i e) × Formed (drop e s)
+      go : Dec (n < length s) → Formed (take n s) × Formed (drop n s)
       go (yes h) =
-          let c = drop-cons s e 0 h in
-          let r = ascii_cuts (get_or s e 0) (drop (suc e) s) (x.ends h) (between s i e) (rw c at whole) in
+          let c = drop-cons s n 0 h in
+          let r = ascii_cuts (get_or s n 0) (drop (suc n) s) (x.ends h) (take n s) (rw c at whole) in
           (r.0, rw c r.1)
       go (no h) =
-          let c : drop e s ≡ [] = drop_of_length-le s {i = e} (omega arith) in
-          (rw (c, append-nil (between s i e)) at whole, rw c no_bytes)
+          let c : drop n s ≡ [] = drop_of_length-le s {i = n} (omega arith) in
+          (rw (c, append-nil (take n s)) at whole, rw c no_bytes)
 
-  run_kept : kept s i ≡ decode (between s i e) ++ kept s e
+  run_kept : kept s ≡ decode (take n s) ++ kept (drop n s)
   unfolding kept
   run_kept =
-      ap (λ (l : List ℕ). without 13 (decode l)) run_cut
-      ∙ ap (without 13) (decode_append (between s i e) (drop e s) run_formed.0)
-      ∙ without_append 13 (decode (between s i e)) (decode (drop e s))
-      ∙ ap (λ (l : List ℕ). l ++ without 13 (decode (drop e s))) (without_none 13 (decode (between s i e)) (sym (elem_decode 13 (between s i e) (omega arith) run_formed.0) ∙ x.no_return))
+      ap (λ (l : List ℕ). without 13 (decode l)) (sym (take-append-drop n s))
+      ∙ ap (without 13) (decode_append (take n s) (drop n s) run_formed.0)
+      ∙ without_append 13 (decode (take n s)) (decode (drop n s))
+      ∙ ap (λ (l : List ℕ). l ++ without 13 (decode (drop n s))) (without_none 13 (decode (take n s)) (sym (elem_decode 13 (take n s) (omega arith) run_formed.0) ∙ x.no_return))
 
-  run_reads_lem : (m : Mode) → (m ≡ Literal) ⊎ (m ≡ Plain) → reads_by m (kept s i) ≡ pushes (decode (between s i e)) (reads_by m (kept s e))
-  run_reads_lem m (inl p) = rw p (ap value run_kept ∙ pushes_value (decode (between s i e)) (kept s e))
-  run_reads_lem m (inr p) = rw p (ap (unescape plain) run_kept ∙ pushes_plain (decode (between s i e)) (kept s e) (sym (elem_decode 92 (between s i e) (omega arith) run_formed.0) ∙ x.no_backslash))
+  run_reads : (m : Mode) → (m ≡ Literal) ⊎ (m ≡ Plain) → reads_by m (kept s) ≡ pushes (decode (take n s)) (reads_by m (kept (drop n s)))
+  run_reads m (inl p) = rw p (ap value run_kept ∙ pushes_value (decode (take n s)) (kept (drop n s)))
+  run_reads m (inr p) = rw p (ap (unescape plain) run_kept ∙ pushes_plain (decode (take n s)) (kept (drop n s)) (sym (elem_decode 92 (take n s) (omega arith) run_formed.0) ∙ x.no_backslash))
 
-reads_pushes : (d : List ℕ) (at : ℕ) (entry : List ℕ) (w : unquoting.Unescaped) (exit : List ℕ) (number len : ℕ) → Reads (at + length (encode d)) (sets entry at (encode d)) w exit number len → Reads at entry (pushes d w) exit number len
+reads_pushes : (d : List ℕ) (at : ℕ) (entry : List ℕ) (w : unquoting.Unescaped) (exit : List ℕ) (r : Result ℕ Reason) → Reads (at + length (encode d)) (sets entry at (encode d)) w exit r → Reads at entry (pushes d w) exit r
 unfolding encode
-reads_pushes [] at entry w exit number len h = let z : at + 0 ≡ at = omega arith in rw z at h
-reads_pushes (c ∷ d) at entry w exit number len h =
+reads_pushes [] at entry w exit r h = let z : at + 0 ≡ at = omega arith in rw z at h
+reads_pushes (c ∷ d) at entry w exit r h =
     let z : at + length (encode_char c ++ encode d) ≡ at + length (encode_char c) + length (encode d) = rw (length-append (encode_char c) (encode d)) (omega arith) in
-    reads_push c at entry (pushes d w) exit number len (at + length (encode_char c)) (sets entry at (encode_char c)) refl refl
-    (reads_pushes d (at + length (encode_char c)) (sets entry at (encode_char c)) w exit number len (rw (z, ← sets_append (encode_char c) (encode d) entry at) at h))
+    reads_push c at entry (pushes d w) exit r (at + length (encode_char c)) (sets entry at (encode_char c)) refl refl
+    (reads_pushes d (at + length (encode_char c)) (sets entry at (encode_char c)) w exit r (rw (z, ← sets_append (encode_char c) (encode d) entry at) at h))
 
-pub run_copied : (s : List ℕ) (i e : ℕ) (m : Mode) (out : List ℕ) (at : ℕ) (last : List ℕ) → RunIs s i e → Formed (drop i s) → (m ≡ Literal) ⊎ (m ≡ Plain) → last ≡ sets out at (between s i e) → CopiedIs s i m out at last e
-run_copied s i e m out at last x f p o =
-    let b = encoded (between s i e) (run_formed s i e x f).0 in
-    let n : length (encode (decode (between s i e))) ≡ e - i = ap length b ∙ length_between s i e x.within in
+pub bare_run : (s : List ℕ) (n : ℕ) (m : Mode) → n ≡ bare_len s → Formed s → (m ≡ Literal) ⊎ (m ≡ Plain) → RunIs s m n
+bare_run s n m e f p =
+    let x : Bare s n = rw e (bare s) in
+    let b = encoded (take n s) (run_formed s n x f).0 in
+    let l : length (encode (decode (take n s))) ≡ n = ap length b ∙ length-take-le n s x.within in
     record {
-      onward = x.onward;
       within = x.within;
-      formed = (run_formed s i e x f).1;
-      size = ap length o ∙ length-sets out at (between s i e);
-      reads = λ exit number len h.
-          same_as (reads_by m (kept s i)) at out exit number len (run_reads_lem s i e x f m p)
-          (reads_pushes (decode (between s i e)) at out (reads_by m (kept s e)) exit number len (rw (n, b) (rw o at h)));
+      formed = (run_formed s n x f).1;
+      reads = λ at out exit r h.
+          same_as (pushes (decode (take n s)) (reads_by m (kept (drop n s)))) (reads_by m (kept s)) at out exit r (run_reads s n x f m p)
+          (reads_pushes (decode (take n s)) at out (reads_by m (kept (drop n s))) exit r (rw (l, b) h));
     }
 
-pub none_copied : (s : List ℕ) (i : ℕ) (m : Mode) (out : List ℕ) (at : ℕ) → i ≤ length s → Formed (drop i s) → CopiedIs s i m out at out i
-none_copied s i m out at h f =
-    let z : at + (i - i) ≡ at = omega arith in
-    record { onward = omega arith; within = h; formed = f; size = refl; reads = λ exit number len g. rw z at g }
+-- one turn: a run, and then the end of the text or a character
+module _ (s : List ℕ) (m : Mode) (n at : ℕ) (out : List ℕ) (x : RunIs s m n) where
+  pub turn_end : (exit : List ℕ) (at2 : ℕ) → at2 ≡ at + length (take n s) → exit ≡ sets out at (take n s) → kept (take (length s - n) (drop n s)) ≡ [] → reads_by m [] ≡ value [] → Reads at out (reads_by m (kept s)) exit (Ok at2)
+  unfolding encode
+  turn_end exit at2 p q e f =
+      let k : kept (drop n s) ≡ [] = rw (rest s n) at e in
+      x.reads at out exit (Ok at2) (rw (k, f) (omega (arith, length-take-le n s x.within), q))
 
--- ---- the run, byte by byte
+  pub turn_put : (next : Next) (c : ℕ) (to : Mode) (at2 at3 : ℕ) (out2 out3 exit : List ℕ) (r : Result ℕ Reason) → at2 ≡ at + length (take n s) → out2 ≡ sets out at (take n s)
+      → kept (take (length s - n) (drop n s)) ≡ next.code ∷ kept next.rest.now → ((u : List ℕ) → reads_by m (next.code ∷ u) ≡ push c (reads_by to u))
+      → at3 ≡ at2 + length (encode_char c) → out3 ≡ sets out2 at2 (encode_char c)
+      → Reads at3 out3 (reads_by to (kept next.rest.now)) exit r → Reads at out (reads_by m (kept s)) exit r
+  turn_put next c to at2 at3 out2 out3 exit r p q e f g o h =
+      let k : kept (drop n s) ≡ next.code ∷ kept next.rest.now = rw (rest s n) at e in
+      let z : at2 ≡ at + n = omega (arith, length-take-le n s x.within) in
+      let w = reads_by to (kept next.rest.now) in
+      x.reads at out exit r
+      (same_as (push c w) (reads_by m (kept (drop n s))) (at + n) (sets out at (take n s)) exit r (ap (reads_by m) k ∙ f (kept next.rest.now))
+      (reads_push c (at + n) (sets out at (take n s)) w exit r at3 out3 (g ∙ rw z) (o ∙ rw (q, z)) h))
 
-pub record Passed (s : List ℕ) (i at to : ℕ) (out out2 : List ℕ) : Type 0 where
-  pub onward : i ≤ at
-  pub within : at ≤ length s
-  pub no_return : elem 13 (between s i at) ≡ false
-  pub no_backslash : elem 92 (between s i at) ≡ false
-  pub stored : out2 ≡ sets out to (between s i at)
-
-pub pass_start : (s : List ℕ) (i to : ℕ) (out : List ℕ) → i ≤ length s → Passed s i i to out out
-pass_start s i to out h =
-    let z : between s i i ≡ [] = nothing_between s i i (omega arith) in
-    record { onward = omega arith; within = h; no_return = rw z; no_backslash = rw z; stored = rw z }
-
-pub pass_next : (s : List ℕ) (i at to : ℕ) (out out2 out3 : List ℕ) → Passed s i at to out out2 → at < length s → (get_or s at 0 ≡ 92 → ⊥) → (get_or s at 0 ≡ 13 → ⊥) → out3 ≡ set out2 (to + (at - i)) (get_or s at 0) → Passed s i (at + 1) to out out3
-pass_next s i at to out out2 out3 x h m n o =
-    record {
-      onward = omega (arith, x.onward);
-      within = omega arith;
-      no_return = lacks_next 13 x.no_return n;
-      no_backslash = lacks_next 92 x.no_backslash m;
-      stored = o ∙ ap (λ (l : List ℕ). set l (to + (at - i)) (get_or s at 0)) x.stored
-          ∙ ap (λ (k : ℕ). set (sets out to (between s i at)) (to + k) (get_or s at 0)) (sym (length_between s i at x.within))
-          ∙ sets_append (between s i at) (get_or s at 0 ∷ []) out to
-          ∙ ap (sets out to) (sym next);
-    }
-  where
-    next : between s i (at + 1) ≡ between s i at ++ (get_or s at 0 ∷ [])
-    next = let z : at + 1 - 1 ≡ at = omega arith in rw z at (between_last s i (at + 1) (omega (arith, x.onward)) (omega arith))
-
-    lacks_next : (y : ℕ) → elem y (between s i at) ≡ false → (get_or s at 0 ≡ y → ⊥) → elem y (between s i (at + 1)) ≡ false
-    lacks_next y e k = rw (next, elem_append y (between s i at) (get_or s at 0 ∷ []), e, ne_eqb y (get_or s at 0) (λ f. k (sym f)))
-
-pub pass_run : (s : List ℕ) (i at to : ℕ) (out out2 : List ℕ) → Passed s i at to out out2 → (at < length s → get_or s at 0 < 0x80) → RunIs s i at × (out2 ≡ sets out to (between s i at))
-pass_run s i at to out out2 x h =
-    (record { onward = x.onward; within = x.within; ends = h; no_return = x.no_return; no_backslash = x.no_backslash }, x.stored)
+  pub turn_formed : Formed (take (length s - n) (drop n s))
+  turn_formed = rw (rest s n) x.formed

@@ -1,201 +1,114 @@
-// The pass over the characters of a string, which writes its value.
+// The pass over the characters of a string, which writes its value. What one character does there stands in mode.rt.
 #![tactic(auto)]
 
-ghost use Rattle.std.specs.Prelude.{◌≡◌, length, drop, set, ◌+◌, ◌/◌, ◌%◌, ◌≤◌, ◌<◌};
+ghost use Rattle.std.specs.Prelude.{◌≡◌, ◌+◌, ◌*◌, ◌^◌, ◌≤◌, ◌<◌, length, take, drop};
+ghost use Rattle.std.specs.List.{take_while};
 ghost use Rattle.std.proofs.lemmas.List.Edits.{sets};
 ghost use Rattle.eon_spec.specs.Utf8.{encode_char};
-ghost use Rattle.eon_escape.specs.Views.{reads_by, GoodMode, end_of};
-ghost use Rattle.eon_unescape.specs.Views.{kept, between, Formed, NextIs, Reads, RunIs, CopiedIs};
+ghost use Rattle.eon_unescape.specs.Modes.{reads_by};
+ghost use Rattle.eon_unescape.specs.Views.{kept, Formed, NextIs, Reads, is_bare, RunIs};
 
-use eon_escape::{Mode, Step};
+mod chars;
+mod digits;
+mod mode;
 
-// A character, and the place behind it; at the end of the text the place where it was looked for.
+use crate::mode::Step;
+use eon_spec::Reason;
+pub use mode::Mode;
+
+// A character, and the text behind it.
 #[derive(Clone, Copy)]
-pub struct Next {
-    pub code: u32,
-    pub end: usize,
+pub struct Next<'a> {
+    pub code: char,
+    pub rest: &'a [u8],
 }
 
-// The next character from a place on that is no carriage return.
-pub fn next_kept(text: &[u8], from: usize) -> Next
-    requires { from ≤ length text.now }
-    ensures { NextIs text.now from result.code result.end }
+// The first character that is no carriage return.
+pub fn next_kept(text: &[u8]) -> Option<Next<'_>>
+    ensures { NextIs text.now result }
 {
-    let mut at = from;
-    while at < text.len() {
-        let c = eon_utf8::char_at(text, at);
-        let n = c.len;
-        if n == 0 {
-            return Next { code: 0, end: from };
-        }
-        at += n;
-        if c.code != 13 {
-            return Next {
-                code: c.code,
-                end: at,
-            };
+    let mut rest = text;
+    while let Some(c) = eon_utf8::first_char(rest) {
+        rest = &rest[c.len..];
+        let code = c.code;
+        if code != '\r' {
+            return Some(Next { code, rest });
         }
     }
-    Next { code: 0, end: from }
+    None
 }
 
-// The same, for a walk over a text: ASCII needs no decoding.
-fn quick_next(text: &[u8], from: usize) -> Next
-    requires { from ≤ length text.now }
-    ensures { NextIs text.now from result.code result.end }
+// The text is unescaped into the beginning of out, as far as it reaches. The length of the value is handed back.
+pub fn unescape(text: &[u8], mode: Mode, out: &mut [u8]) -> Result<usize, Reason>
+    requires short { length text.now ≤ 65535 }
+    requires formed { Formed text.now }
+    ensures { Reads 0 out.old (reads_by mode (kept text.now)) out.new result }
 {
-    if text.len() <= from {
-        return Next { code: 0, end: from };
-    }
-    let b = text[from];
-    if b < 0x80 {
-        if b != 13 {
-            return Next {
-                code: b as u32,
-                end: from + 1,
-            };
+    let mut rest = text;
+    let mut mode = mode;
+    let mut len = 0;
+    // A `loop`, since its turns take runs of different length: no iterator hands them out.
+    loop {
+        let run = run_len(rest, mode);
+        len = put(out, len, &rest[..run]);
+        let Some(next) = next_kept(&rest[run..]) else {
+            mode.at_end()?;
+            return Ok(len);
+        };
+        rest = next.rest;
+        match mode.read_char(next.code)? {
+            Step::Go(to) => mode = to,
+            Step::Put(c, to) => {
+                len = put_char(out, len, c);
+                mode = to;
+            }
         }
     }
-    next_kept(text, from)
 }
 
-// A byte is stored where there is room.
-fn put(out: &mut [u8], at: usize, b: u8)
-    ensures { out.new ≡ set out.old at b }
-{
-    if at < out.len() {
-        out[at] = b;
-    }
-}
-
-// A further byte of a character.
-fn put_tail(out: &mut [u8], at: usize, c: u32)
-    ensures { out.new ≡ set out.old at (0x80 + c % 64) }
-{
-    put(out, at, (0x80 + c % 64) as u8);
-}
-
-// The last two bytes of a character.
-fn put_tails(out: &mut [u8], at: usize, c: u32)
-    requires { at < 0x2000000 }
-    ensures { out.new ≡ set (set out.old at (0x80 + c / 64 % 64)) (at + 1) (0x80 + c % 64) }
-{
-    put_tail(out, at, c / 64);
-    put_tail(out, at + 1, c);
-}
-
-// The bytes of a character; the place behind them is handed back.
-fn put_char(out: &mut [u8], at: usize, c: u32) -> usize
-    requires { (c < 0x200000) × (at < 0x1000000) }
-    ensures { (out.new ≡ sets out.old at (encode_char c)) × (result ≡ at + length (encode_char c)) × (result ≤ at + 4) }
-{
-    if c < 0x80 {
-        put(out, at, c as u8);
-        return at + 1;
-    }
-    if c < 0x800 {
-        put(out, at, (0xC0 + c / 64) as u8);
-        put_tail(out, at + 1, c);
-        return at + 2;
-    }
-    if c < 0x10000 {
-        put(out, at, (0xE0 + c / 4096) as u8);
-        put_tails(out, at + 1, c);
-        return at + 3;
-    }
-    put(out, at, (0xF0 + c / 262144) as u8);
-    put_tail(out, at + 1, c / 4096);
-    put_tails(out, at + 2, c);
-    at + 4
-}
-
-// A refusal's number or 0, and the length of the value.
-#[derive(Clone, Copy)]
-pub struct Read {
-    pub fault: u32,
-    pub len: usize,
-}
-
-// The text ends in a mode, after so many bytes.
-fn finished(mode: Mode, len: usize) -> Read
-    ensures { (result.fault ≡ end_of mode) × (result.len ≡ len) }
-{
-    Read {
-        fault: eon_escape::at_end(mode),
-        len: len,
-    }
-}
-
-// The bytes from a place on, up to a backslash or a carriage return, are copied as far as out reaches.
-fn copy_run(text: &[u8], from: usize, out: &mut [u8], to: usize) -> usize
-    requires { (from ≤ length text.now) × (length text.now ≤ 65535) × (to < 0x1000000) }
-    ensures { RunIs text.now from result × (out.new ≡ sets out.old to (between text.now from result)) }
-{
-    let mut at = from;
-    while at < text.len() {
-        let b = text[at];
-        if b == 92 {
-            return at;
-        }
-        if b == 13 {
-            return at;
-        }
-        put(out, to + (at - from), b);
-        at += 1;
-    }
-    at
-}
-
-// Outside an escape most bytes stand for themselves. The place behind those copied is handed back.
-fn copied(text: &[u8], from: usize, mode: Mode, out: &mut [u8], to: usize) -> usize
-    requires { (from ≤ length text.now) × (length text.now ≤ 65535) × (to < 0x1000000) × Formed (drop from text.now) }
-    ensures { CopiedIs text.now from mode out.old to out.new result }
+// Outside an escape most bytes stand for themselves: those up to a backslash or a carriage return.
+fn run_len(text: &[u8], mode: Mode) -> usize
+    requires { Formed text.now }
+    ensures { RunIs text.now mode result }
 {
     match mode {
-        Mode::Literal => copy_run(text, from, out, to),
-        Mode::Plain => copy_run(text, from, out, to),
-        Mode::Backslash => from,
-        Mode::Blanks => from,
-        Mode::Unicode => from,
-        Mode::Digits(_, _) => from,
+        Mode::Literal | Mode::Plain => bare_len(text),
+        Mode::Backslash | Mode::Blanks | Mode::Unicode | Mode::Digits(_) => 0,
     }
 }
 
-// The text is unescaped into the beginning of out, as far as it reaches.
-pub fn unescape(text: &[u8], mode: Mode, out: &mut [u8]) -> Read
-    requires { (length text.now ≤ 65535) × Formed text.now × GoodMode mode }
-    ensures { Reads 0 out.old (reads_by mode (kept text.now 0)) out.new result.fault result.len }
+fn bare_len(text: &[u8]) -> usize
+    ensures { result ≡ length (take_while is_bare text.now) }
 {
-    let mut at = 0;
-    let mut m = mode;
-    let mut len = 0;
-    while at < text.len() {
-        let run = copied(text, at, m, out, len);
-        len += run - at;
-        let c = quick_next(text, run);
-        let end = c.end;
-        if end == run {
-            return finished(m, len);
-        }
-        at = end;
-        let step = eon_escape::read_char(m, c.code);
-        match step {
-            Step::Go(next) => {
-                m = next;
-                continue;
-            }
-            Step::Put(code, next) => {
-                len = put_char(out, len, code);
-                m = next;
-                continue;
-            }
-            Step::Stop(number) => {
-                return Read {
-                    fault: number,
-                    len: 0,
-                };
-            }
-        }
+    text.iter()
+        .take_while(|b| **b != b'\\' && **b != b'\r')
+        .count()
+}
+
+// The bytes of a character.
+#[tactic(auto, using(crate::proofs::Writes::same_bytes))]
+fn put_char(out: &mut [u8], at: usize, c: char) -> usize
+    requires { at < 2 ^ 32 }
+    ensures written { out.new ≡ sets out.old at (encode_char c) }
+    ensures behind { result ≡ at + length (encode_char c) }
+    ensures few { result ≤ at + 4 }
+{
+    let mut bytes = [0; 4];
+    let encoded = c.encode_utf8(&mut bytes);
+    put(out, at, encoded.as_bytes())
+}
+
+// Bytes are stored where there is room. The place behind them all is handed back.
+fn put(out: &mut [u8], at: usize, bytes: &[u8]) -> usize
+    requires { at + length bytes.now < 2 ^ 64 }
+    ensures written { out.new ≡ sets out.old at bytes.now }
+    ensures behind { result ≡ at + length bytes.now }
+{
+    let end = at + bytes.len();
+    if out.len() <= at {
+        return end;
     }
-    finished(m, len)
+    let n = bytes.len().min(out.len() - at);
+    out[at..at + n].copy_from_slice(&bytes[..n]);
+    end
 }

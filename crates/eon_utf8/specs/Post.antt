@@ -1,16 +1,16 @@
 -- What the functions ensure.
-use Rattle.std.specs.Prelude.{◌≡◌, List, ℕ, ◌-◌, ◌≤◌, ◌<◌, length, drop, take}
+use Rattle.std.specs.Prelude.{◌≡◌, ◌≤◌, ◌<◌, List, ℕ, length, take, Option, Some, None}
 use Rattle.eon_spec.specs.Utf8.{char_len, code_point}
+use Rattle.eon_utf8.specs.declared.Char.{Char}
 
--- the length of the character at a place
-pub record CharLen (s : List ℕ) (i r : ℕ) : Type 0 where
-  pub is : r ≡ char_len (drop i s)
-  pub inside : r ≤ length s - i
-  pub small : r ≤ 4
+-- the character c begins the text
+pub record StartsWith (s : List ℕ) (c : Char) : Type 0 where
+  pub is : c.len ≡ char_len s
+  pub some : 0 < c.len
+  pub inside : c.len ≤ length s
+  pub point : c.code ≡ code_point (take c.len s)
 
--- the code point of the character at a place, and its length
-pub record CharAt (s : List ℕ) (i code len : ℕ) : Type 0 where
-  pub is : len ≡ char_len (drop i s)
-  pub inside : len ≤ length s - i
-  pub point : code ≡ code_point (take len (drop i s))
-  pub small : code < 0x200000
+-- the character that begins the text, if there is one
+abbrev pub FirstChar : List ℕ → Option Char → Type 0
+FirstChar s None = char_len s ≡ 0
+FirstChar s (Some c) = StartsWith s c

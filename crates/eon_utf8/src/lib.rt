@@ -1,173 +1,145 @@
 // UTF-8 by Table 3-7 of the Unicode standard.
 #![tactic(auto)]
 
-ghost use Rattle.std.specs.Prelude.{◌≡◌, ◌∷◌, [], ◌+◌, ◌-◌, ◌*◌, ◌≤◌, ◌<◌, length, drop, replicate};
-ghost use Rattle.std.proofs.Math.Option.{some};
-ghost use Rattle.eon_spec.specs.Base.{within};
-ghost use Rattle.eon_spec.specs.Utf8.{◌to◌, trailing, len_if, well_formed_from, well_formed_len};
-ghost use Rattle.eon_utf8.specs.Post.{CharLen, CharAt};
+ghost use Rattle.std.specs.Prelude.{◌≡◌, ◌∷◌, [], ◌+◌, ◌*◌, ◌-◌, ◌≤◌, ◌<◌, nat_lt, length};
+ghost use Rattle.std.specs.List.{take_while};
+ghost use Rattle.std.specs.Char.{InScalarRange};
+ghost use Rattle.eon_spec.specs.Utf8.{code_point, well_formed_len};
+ghost use Rattle.eon_utf8.specs.Post.{FirstChar};
 
-// A byte lies in a range.
-pub fn in_range(b: u8, lo: u8, hi: u8) -> bool
-    ensures { result ≡ within lo hi b }
-{
-    if b < lo {
-        return false;
-    }
-    b <= hi
-}
-
-// The length of a character with n further bytes, the first of them from lo to hi; 0 if the text has others.
-fn fits_len(text: &[u8], at: usize, lo: u8, hi: u8, n: usize) -> usize
-    requires { (at ≤ length text.now) × (1 ≤ n) × (n ≤ 3) }
-    ensures { (result ≡ len_if (some (lo to hi ∷ replicate (n - 1) trailing)) (drop at text.now)) × (result ≤ 4) }
-{
-    if text.len() - at < n {
-        return 0;
-    }
-    if !in_range(text[at], lo, hi) {
-        return 0;
-    }
-    if n == 1 {
-        return 2;
-    }
-    if !in_range(text[at + 1], 0x80, 0xBF) {
-        return 0;
-    }
-    if n == 2 {
-        return 3;
-    }
-    if !in_range(text[at + 2], 0x80, 0xBF) {
-        return 0;
-    }
-    4
-}
-
-// The length of the well-formed character at a place, 0 if there is none.
-pub fn char_len(text: &[u8], at: usize) -> usize
-    ensures { CharLen text.now at result }
-{
-    if text.len() <= at {
-        return 0;
-    }
-    let b = text[at];
-    if b < 0x80 {
-        return 1;
-    }
-    if b < 0xC2 {
-        return 0;
-    }
-    if b < 0xE0 {
-        return fits_len(text, at + 1, 0x80, 0xBF, 1);
-    }
-    if b == 0xE0 {
-        return fits_len(text, at + 1, 0xA0, 0xBF, 2);
-    }
-    if b == 0xED {
-        return fits_len(text, at + 1, 0x80, 0x9F, 2);
-    }
-    if b < 0xF0 {
-        return fits_len(text, at + 1, 0x80, 0xBF, 2);
-    }
-    if b == 0xF0 {
-        return fits_len(text, at + 1, 0x90, 0xBF, 3);
-    }
-    if b < 0xF4 {
-        return fits_len(text, at + 1, 0x80, 0xBF, 3);
-    }
-    if b == 0xF4 {
-        return fits_len(text, at + 1, 0x80, 0x8F, 3);
-    }
-    0
-}
-
-// The end of the ASCII bytes from a place on.
-fn skip_ascii(text: &[u8], from: usize) -> usize
-    requires { from ≤ length text.now }
-    ensures { (result ≤ length text.now) × (from + well_formed_from 0 (drop from text.now) ≡ result + well_formed_from 0 (drop result text.now)) × (from ≤ result) }
-{
-    let mut at = from;
-    while at < text.len() {
-        if 0x80 <= text[at] {
-            return at;
-        }
-        at += 1;
-    }
-    at
+// A character: its code point and its length.
+#[derive(Clone, Copy)]
+pub struct Char {
+    pub code: char,
+    pub len: usize,
 }
 
 // The length of the longest well-formed beginning.
 pub fn well_formed_len(text: &[u8]) -> usize
     ensures { result ≡ well_formed_len text.now }
 {
-    let mut at = 0;
-    while at < text.len() {
-        at = skip_ascii(text, at);
-        let n = char_len(text, at);
-        if n == 0 {
-            return at;
-        }
-        at += n;
+    let mut at = ascii_len(text);
+    while let Some(c) = first_char(&text[at..]) {
+        at += c.len;
+        at += ascii_len(&text[at..]);
     }
     at
 }
 
-// How far x lies above y, 0 if it does not.
-fn above(x: u8, y: u8) -> u32
-    ensures { result ≡ x - y }
+// The well-formed character that the text begins with, row by row of the table.
+#[tactic(auto, unfolding(eon_spec::specs::Utf8::char_len))]
+pub fn first_char(text: &[u8]) -> Option<Char>
+    ensures { FirstChar text.now result }
 {
-    if x < y {
-        return 0;
+    match text {
+        [a @ 0..=0x7F, ..] => Some(one(*a)),
+        [a @ 0xC2..=0xDF, b @ 0x80..=0xBF, ..] => Some(two(*a, *b)),
+        [a @ 0xE0, b @ 0xA0..=0xBF, c @ 0x80..=0xBF, ..] => Some(three(*a, *b, *c)),
+        [
+            a @ (0xE1..=0xEC | 0xEE..=0xEF),
+            b @ 0x80..=0xBF,
+            c @ 0x80..=0xBF,
+            ..
+        ] => Some(three(*a, *b, *c)),
+        [a @ 0xED, b @ 0x80..=0x9F, c @ 0x80..=0xBF, ..] => Some(three(*a, *b, *c)),
+        [
+            a @ 0xF0,
+            b @ 0x90..=0xBF,
+            c @ 0x80..=0xBF,
+            d @ 0x80..=0xBF,
+            ..
+        ] => Some(four(*a, *b, *c, *d)),
+        [
+            a @ 0xF1..=0xF3,
+            b @ 0x80..=0xBF,
+            c @ 0x80..=0xBF,
+            d @ 0x80..=0xBF,
+            ..
+        ] => Some(four(*a, *b, *c, *d)),
+        [
+            a @ 0xF4,
+            b @ 0x80..=0x8F,
+            c @ 0x80..=0xBF,
+            d @ 0x80..=0xBF,
+            ..
+        ] => Some(four(*a, *b, *c, *d)),
+        _ => None,
     }
-    (x - y) as u32
 }
 
-// A character: its code point and its length.
-#[derive(Clone, Copy)]
-pub struct Char {
-    pub code: u32,
-    pub len: usize,
+fn one(a: u8) -> Char
+    ensures len { result.len ≡ 1 }
+    ensures code { result.code ≡ a }
+{
+    Char {
+        code: char::from(a),
+        len: 1,
+    }
+}
+
+fn two(a: u8, b: u8) -> Char
+    requires lead { 0xC0 ≤ a }
+    requires trailing { 0x80 ≤ b }
+    requires scalar { InScalarRange (code_point (a ∷ b ∷ [])) }
+    ensures len { result.len ≡ 2 }
+    ensures code { result.code ≡ code_point (a ∷ b ∷ []) }
+{
+    Char {
+        code: scalar(with_byte(u32::from(a - 0xC0), b)),
+        len: 2,
+    }
+}
+
+fn three(a: u8, b: u8, c: u8) -> Char
+    requires lead { 0xE0 ≤ a }
+    requires second { 0x80 ≤ b }
+    requires trailing { 0x80 ≤ c }
+    requires scalar { InScalarRange (code_point (a ∷ b ∷ c ∷ [])) }
+    ensures len { result.len ≡ 3 }
+    ensures code { result.code ≡ code_point (a ∷ b ∷ c ∷ []) }
+{
+    let high = with_byte(u32::from(a - 0xE0), b);
+    Char {
+        code: scalar(with_byte(high, c)),
+        len: 3,
+    }
+}
+
+fn four(a: u8, b: u8, c: u8, d: u8) -> Char
+    requires lead { 0xF0 ≤ a }
+    requires second { 0x80 ≤ b }
+    requires third { 0x80 ≤ c }
+    requires trailing { 0x80 ≤ d }
+    requires scalar { InScalarRange (code_point (a ∷ b ∷ c ∷ d ∷ [])) }
+    ensures len { result.len ≡ 4 }
+    ensures code { result.code ≡ code_point (a ∷ b ∷ c ∷ d ∷ []) }
+{
+    let high = with_byte(with_byte(u32::from(a - 0xF0), b), c);
+    Char {
+        code: scalar(with_byte(high, d)),
+        len: 4,
+    }
 }
 
 // A code point with one byte more.
 fn with_byte(high: u32, b: u8) -> u32
-    requires { high < 0x20000 }
-    ensures { (result ≡ high * 64 + (b - 0x80)) × (result < high * 64 + 128) }
+    requires room { high < 0x20000 }
+    requires trailing { 0x80 ≤ b }
+    ensures { result ≡ high * 64 + (b - 0x80) }
 {
-    high * 64 + above(b, 0x80)
+    high * 64 + u32::from(b - 0x80)
 }
 
-// The character at a place, of length 0 if there is none.
-pub fn char_at(text: &[u8], at: usize) -> Char
-    ensures { CharAt text.now at result.code result.len }
+fn scalar(code: u32) -> char
+    requires { InScalarRange code }
+    ensures { result ≡ code }
 {
-    let n = char_len(text, at);
-    if n == 0 {
-        return Char { code: 0, len: 0 };
-    }
-    let b = text[at];
-    if n == 1 {
-        return Char {
-            code: above(b, 0),
-            len: 1,
-        };
-    }
-    if n == 2 {
-        return Char {
-            code: with_byte(above(b, 0xC0), text[at + 1]),
-            len: 2,
-        };
-    }
-    if n == 3 {
-        let high = with_byte(above(b, 0xE0), text[at + 1]);
-        return Char {
-            code: with_byte(high, text[at + 2]),
-            len: 3,
-        };
-    }
-    let high = with_byte(with_byte(above(b, 0xF0), text[at + 1]), text[at + 2]);
-    Char {
-        code: with_byte(high, text[at + 3]),
-        len: 4,
-    }
+    char::from_u32(code).unwrap()
+}
+
+// The number of ASCII bytes that the text begins with.
+fn ascii_len(text: &[u8]) -> usize
+    ensures { result ≡ length (take_while (λ b. nat_lt b 0x80) text.now) }
+{
+    text.iter().take_while(|b| **b < 0x80).count()
 }

@@ -2,7 +2,7 @@
 -- 3,276 records and the output for 65,536 bytes.
 use Rattle.std.specs.Prelude.{ℕ, List, [], ◌∷◌, ◌++◌, take, replicate}
 use Rattle.std.specs.Fmt.{decimal}
-use Rattle.eon_spec.specs.declared.Refusal.{Refusal}
+use Rattle.eon_spec.specs.Refused.{Refusal}
 use Rattle.eon_spec.specs.Base.{codes}
 use Rattle.eon_spec.specs.Calls.{Outcome, done, refused_with, After}
 use Rattle.eon_spec.specs.Runs.{run_reads, run_writes}

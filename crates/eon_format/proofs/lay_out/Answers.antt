@@ -1,13 +1,17 @@
-use Rattle.eon_spec.specs.Layout.{settings_of, format}
-use Rattle.eon_format.proofs.Answers.{lays_done, lays_full}
+-- What was measured decides, and what was written is the layout.
+use Rattle.std.proofs.Common.{sym, ap, ◌∙◌, refl, arith, rules}
+use Rattle.eon_spec.specs.Layout.{format, settings_of}
+use Rattle.eon_spec.specs.Refused.{refusal_of}
+use Rattle.eon_spec.specs.Calls.{after, refused_with}
+use Rattle.eon_format.proofs.Answered.{fits, filled, full}
 use Rattle.eon_format.proofs.lay_out.Goals as goal
 
-pub returns-then-n-out : goal.returns-then-n-out
-returns-then-n-out c t h = let a = c.args in
-    let o = settings_of a.o in
-    lays_done a.out.now (format o t) c.measure-n.new.out c.write.new.out c.measure-n.result c.write.result (c.measure-n.ensures t h) c.if-n-out.true (c.write.ensures t h)
+pub returns-in_default : goal.returns-in_default
+returns-in_default c t h = let b = format (settings_of c.args.layout.options.now) t in
+    ap (λ r. after (refused_with (refusal_of r)) c.args.out.now) c.new.ensures ∙ full c.args.out.now b (sym (c.format.ensures t h) ∙ c.in_default.is)
 
 pub returns : goal.returns
-returns c t h = let a = c.args in
-    let o = settings_of a.o in
-    lays_full a.out.now (format o t) c.measure-n.new.out c.measure-n.result (c.measure-n.ensures t h) c.if-n-out.false
+returns c t h = let b = format (settings_of c.args.layout.options.now) t in
+    let m = sym (c.format.ensures t h) ∙ c.in-Some.is in
+    let w = (c.write.ensures.written t h).fits 0 refl (omega (arith, (fits c.args.out.now b c.in-Some.left m).0)) in
+    filled c.args.out.now b c.in-Some.left m _ (search (rules, w))

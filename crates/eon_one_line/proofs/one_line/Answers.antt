@@ -1,26 +1,31 @@
-use native.Mathlib.Omega.{arith}
-use Rattle.eon_put.proofs.Writing.{wrote_then, going_start, going_step, going_end, going_length}
-use Rattle.eon_one_line.proofs.Words.{line_more, line_none}
+-- A value and its comma are the next of the line.
+use Rattle.std.proofs.Common.{◌≡◌, ◌+◌, ◌-◌, Bool, [], lt-ltb, le-ltb, cond, sym, ap, subst, arith}
+use Rattle.eon_spec.specs.Base.{codes}
+use Rattle.eon_one_line.specs.Flat.{plain_at, plain_line, comma_at}
+use Rattle.eon_one_line.proofs.Words.{line_none, line_more}
+use Rattle.eon_put.proofs.Going.{Going, going_step, going_end, put_as}
+use Rattle.eon_one_line.proofs.one_line.Goals.{then-j-end, else-j-end}
 use Rattle.eon_one_line.proofs.one_line.Goals as goal
 
-pub loop-j-init : goal.loop-j-init
-loop-j-init c = (omega arith, going_start)
-
-pub put_plain-at-requires : goal.put_plain-at-requires
-put_plain-at-requires c = let pre = c.requires in
-    let loop = c.loop-j in
-    pre loop.j loop.invariant.0 (omega arith)
-
 pub loop-j-preserved : goal.loop-j-preserved
-loop-j-preserved c = let loop = c.loop-j in
-    let put-plain = c.put_plain-at in
-    let a = c.args in
-    let w = wrote_then put-plain.ensures c.put_comma-at.ensures in
-    (omega arith, going_step loop.invariant.1 (line_more a.text.now a.table.now loop.j a.end (omega arith)) w)
-
-pub shape_of-out : goal.shape_of-out
-shape_of-out c = going_length c.loop-j.invariant.1
+loop-j-preserved g c = let s = c.args.sheet.text.now in
+    let tb = c.args.sheet.table.now in
+    let j = c.loop-j.j in
+    let e = c.args.end in
+    let p = g.S.Sink.puts in
+    let m = g.met.S.Sink in
+    let step : (t : g.row.S.Denot) → p c.put_plain.new.sink (comma_at (j + 1) e) t → Going p c.args.sink.now (plain_line s tb c.args.i (e - c.args.i)) t (plain_line s tb (j + 1) (e - (j + 1))) =
+    λ t q. going_step p m.append c.loop-j.invariant (line_more s tb j e c.loop-j-test.true) (m.append c.loop-j.sink c.put_plain.new.sink t (plain_at s tb j) (comma_at (j + 1) e) c.put_plain.ensures q) in
+    elim c.if-j-end.branch [
+      | then-j-end w ↦
+          let comma : codes ", " ≡ comma_at (j + 1) e = ap (λ (b : Bool). cond b (codes ", ") []) (sym (lt-ltb (j + 1) e w.if-j-end.true)) in
+          step c.if-j-end.sink (subst (λ x. p c.put_plain.new.sink (comma_at (j + 1) e) x) (sym w.sink-is) (put_as p comma w.put_all.ensures))
+      | else-j-end w ↦
+          let comma : [] ≡ comma_at (j + 1) e = ap (λ (b : Bool). cond b (codes ", ") []) (sym (le-ltb (j + 1) e w.if-j-end.false)) in
+          step c.if-j-end.sink (subst (λ x. p c.put_plain.new.sink (comma_at (j + 1) e) x) (sym w.sink-is) (put_as p comma (m.nothing c.put_plain.new.sink)))
+    ]
 
 pub returns : goal.returns
-returns c = let a = c.args in
-    going_end c.loop-j.invariant.1 (line_none a.text.now a.table.now c.loop-j.j a.end (omega arith))
+returns g c = let s = c.args.sheet.text.now in
+    let tb = c.args.sheet.table.now in
+    going_end g.S.Sink.puts c.loop-j.invariant (line_none s tb c.loop-j.j c.args.end (omega arith))

@@ -1,41 +1,26 @@
-use mathlib.Core.Path.{sym, ap, ◌∙◌}
-use mathlib.Core.List.{[], ◌∷◌, ◌++◌}
-use Prim.Native.Nat.{ℕ, ◌+◌, ◌-◌}
-use native.Mathlib.Omega.{arith}
+-- The row between brackets is the value's layout.
+use Rattle.std.proofs.Common.{ℕ, ◌+◌, ◌-◌, List, [], ◌∷◌, ◌++◌, ap, ◌∙◌, arith, rules}
 use Rattle.eon_one_line.specs.Flat.{plain_line}
-use Rattle.eon_put.proofs.Writing.{wrote_then, wrote_as}
-use Rattle.eon_one_line.proofs.Trees.{value_plain}
-use Rattle.eon_one_line.proofs.Rows.{flat_plains, flat_list, flat_variant, flat_not_map}
+use Rattle.eon_put.proofs.Going.{put_as}
+use Rattle.eon_one_line.proofs.Rows.{flat_list, flat_variant}
 use Rattle.eon_table.specs.Words.{text_at}
 use Rattle.eon_one_line.proofs.put_flat.Goals as goal
 
-pub put_row-requires : goal.put_row-requires
-put_row-requires c j p q = let a = c.args in
-    let g = c.requires in
-    flat_plains a.text.now a.table.now a.i g.1.0 g.1.1 g.3 g.2 j p (omega arith)
-
-pub returns-then-word-eq-LIST : goal.returns-then-word-eq-LIST
-returns-then-word-eq-LIST c o n v h = let a = c.args in
-    let g = c.requires in
-    wrote_as
-    (ap (λ (x : ℕ). (91 ∷ []) ++ plain_line a.text.now a.table.now (a.i + 1) (a.i + x - (a.i + 1)) ++ (93 ∷ [])) c.word-size.ensures.0
-    ∙ flat_list a.text.now a.table.now a.i o n v h g.3 g.2 (sym c.word.ensures.0 ∙ c.if-word-eq-LIST.true))
+pub returns-then-is : goal.returns-then-is
+returns-then-is g c o n v h = let s = c.args.sheet.text.now in
+    let tb = c.args.sheet.table.now in
+    let i = c.args.i in
+    put_as g.S.Sink.puts
+    (ap (λ (x : ℕ). (91 ∷ []) ++ plain_line s tb (i + 1) (x - (i + 1)) ++ (93 ∷ [])) c.behind-end.ensures
+    ∙ flat_list s tb i o n v h (λ e. omega (arith, e, c.requires.something)) c.requires.flat (c.is.ensures.0 c.if-is.true))
     c.put_row.ensures
 
-pub put_text-at-requires : goal.put_text-at-requires
-put_text-at-requires c = let a = c.args in
-    let g = c.requires in
-    value_plain a.text.now a.table.now a.i g.1.0 g.1.1 (λ e. c.if-word-eq-LIST.false (c.word.ensures.0 ∙ e)) (flat_not_map a.text.now a.table.now a.i g.1.0 g.1.1 g.3 g.2)
-
-pub put_row-requires-2 : goal.put_row-requires-2
-put_row-requires-2 c j p q = let a = c.args in
-    let g = c.requires in
-    flat_plains a.text.now a.table.now a.i g.1.0 g.1.1 g.3 g.2 j p (omega arith)
-
-pub returns : goal.returns
-returns c o n v h = let a = c.args in
-    let g = c.requires in
-    wrote_as
-    (ap (λ (x : ℕ). text_at a.text.now a.table.now a.i ++ ((40 ∷ []) ++ plain_line a.text.now a.table.now (a.i + 1) (a.i + x - (a.i + 1)) ++ (41 ∷ []))) c.word-size.ensures.0
-    ∙ flat_variant a.text.now a.table.now a.i o n v h g.3 g.2 (λ e. c.if-word-eq-LIST.false (c.word.ensures.0 ∙ e)))
-    (wrote_then c.put_text-at.ensures c.put_row-2.ensures)
+pub returns-else-is : goal.returns-else-is
+returns-else-is g c o n v h = let s = c.args.sheet.text.now in
+    let tb = c.args.sheet.table.now in
+    let i = c.args.i in
+    put_as g.S.Sink.puts
+    (ap (λ (b : List ℕ). b ++ ((40 ∷ []) ++ plain_line s tb (i + 1) (c.behind-end.result - (i + 1)) ++ (41 ∷ []))) c.text_at.ensures
+    ∙ ap (λ (x : ℕ). text_at s tb i ++ ((40 ∷ []) ++ plain_line s tb (i + 1) (x - (i + 1)) ++ (41 ∷ []))) c.behind-end.ensures
+    ∙ flat_variant s tb i o n v h (λ e. omega (arith, e, c.requires.something)) c.requires.flat (search rules))
+    (g.met.S.Sink.append _ _ _ _ _ c.put_all.ensures c.put_row-else-is.ensures)

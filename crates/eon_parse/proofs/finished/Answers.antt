@@ -1,27 +1,13 @@
-use mathlib.Core.Path.{ap, ◌∙◌}
+use Rattle.std.proofs.Common.{rules}
+use Rattle.std.specs.Prelude.{Result, Err}
+use mathlib.Core.Path.{◌≡◌, ap, ◌∙◌, subst}
 use Rattle.eon_spec.specs.Calls.{outcome_of}
-use Rattle.eon_laws.proofs.Checked.{good_text}
-use Rattle.eon_parse.proofs.Calls.{fin_long, fin_bad}
+use Rattle.eon_spec.specs.declared.refusal.Refusal.{Refusal}
+use Rattle.eon_parse.specs.Call.{Checked}
+use Rattle.eon_parse.proofs.Calls.{finished_refused}
 use Rattle.eon_parse.proofs.finished.Goals as goal
 
-pub returns-then-text-gt65535 : goal.returns-then-text-gt65535
-returns-then-text-gt65535 c = let args = c.args in
-    let s = args.text.now in
-    let tb = args.table.now in
-    ap outcome_of c.at_place.ensures ∙ fin_long s tb c.if-text-gt65535.true
-
-pub finished_checked-requires : goal.finished_checked-requires
-finished_checked-requires c = let args = c.args in
-    let s = args.text.now in
-    let tb = args.table.now in
-    (good_text s c.well_formed_len-n.result c.well_formed_len-n.ensures c.if-n-text.true, c.if-text-gt65535.false)
-
-pub returns-then-n-text : goal.returns-then-n-text
-returns-then-n-text c = c.finished_checked.ensures
-
-pub returns : goal.returns
-returns c = let args = c.args in
-    let well-formed-len = c.well_formed_len-n in
-    let s = args.text.now in
-    let tb = args.table.now in
-    ap outcome_of c.at_place-2.ensures ∙ fin_bad s tb c.if-text-gt65535.false well-formed-len.result well-formed-len.ensures c.if-n-text.false
+pub returns-in_err-checked : goal.returns-in_err-checked
+returns-in_err-checked c = let s = c.args.text.now in
+    let e : c.from_residual.result ≡ Err c.in_err-checked.field-0.0 = search rules in
+    ap outcome_of e ∙ finished_refused s c.args.table.now c.in_err-checked.field-0.0 (subst (λ (r : Result (Unit {0}) Refusal). Checked s r) c.in_err-checked.was c.checked.ensures)

@@ -1,71 +1,36 @@
-use mathlib.Core.Path.{sym, ap, ◌∙◌}
-use mathlib.Core.Bool.{Bool, cond}
-use Rattle.eon_spec.specs.Calls.{outcome_of}
-use Rattle.eon_parse.specs.Call.{placed_answer}
-use Rattle.eon_spec.specs.declared.Answer.TheVariants.{Done}
-use Rattle.eon_parse.proofs.Calls.{fin_denied, fin_map, fin_single, fin_several}
+use Rattle.std.proofs.Common.{rules}
+use Rattle.std.specs.Prelude.{Err}
+use mathlib.Core.Path.{◌≡◌, refl, sym, ap, ◌∙◌}
+use mathlib.Core.Bool.{Bool, true, false, not, cond}
+use Rattle.eon_spec.specs.Calls.{outcome_of, done, refused_with, nowhere}
+use Rattle.eon_spec.specs.Refused.{refusal_of}
+use Rattle.eon_spec.specs.declared.refusal.Refusal.{Refusal}
+use Rattle.eon_parse.specs.declared.walk.Walk.{Walk}
+use Rattle.eon_parse.specs.Top.{top_at}
+use Rattle.eon_parse.specs.Tops.{top_view}
+use Rattle.eon_parse.proofs.Calls.{finished_no, finished_by}
 use Rattle.eon_parse.proofs.finished_checked.Goals as goal
 
-pub scan-requires : goal.scan-requires
-scan-requires c = c.requires
+pub returns-in_err-top : goal.returns-in_err-top
+returns-in_err-top c = let s = c.args.text.now in
+    let e : c.from_residual.result ≡ Err c.in_err-top.field-0.0 = search rules in
+    ap outcome_of e ∙ finished_no s c.args.table.now c.requires.formed c.requires.short c.in_err-top.field-0.0 (sym (c.whole.ensures.answer ∙ ap (λ (w : Walk). top_view c.args.table.now w.same (top_at s)) c.start.ensures) ∙ c.in_err-top.was)
 
-pub returns-then-same : goal.returns-then-same
-returns-then-same c = let args = c.args in
-    let pre = c.requires in
-    let scan = c.scan in
-    let n = c.in-Map in
-    let s = args.text.now in
-    let tb = args.table.now in
-    sym (ap (λ (z : Bool). outcome_of (cond z (Done n.n) (placed_answer 15 0))) c.if-same.true) ∙ fin_map s tb pre.0 pre.1 n.n n.same (sym scan.ensures ∙ n.is)
+pub returns-then-not-top : goal.returns-then-not-top
+returns-then-not-top c = let s = c.args.text.now in
+    ap (λ (r : Refusal). refused_with (refusal_of r)) c.new.ensures
+    ∙ ap (λ (b : Bool). cond b (done c.in_ok-top.top.count) (refused_with (nowhere 15))) (sym (flip c.in_ok-top.top.same c.if-not-top.true))
+    ∙ finished_by s c.args.table.now c.requires.formed c.requires.short c.in_ok-top.top (sym (c.whole.ensures.answer ∙ ap (λ (w : Walk). top_view c.args.table.now w.same (top_at s)) c.start.ensures) ∙ c.in_ok-top.was)
+  where
+    flip : (b : Bool) → not b ≡ true → b ≡ false
+    flip false e = refl
+    flip true e = sym e
 
-pub returns-then-same-2 : goal.returns-then-same-2
-returns-then-same-2 c = let args = c.args in
-    let pre = c.requires in
-    let scan = c.scan in
-    let n2 = c.in-Single in
-    let s = args.text.now in
-    let tb = args.table.now in
-    sym (ap (λ (z : Bool). outcome_of (cond z (Done n2.n) (placed_answer 15 0))) c.if-same-2.true) ∙ fin_single s tb pre.0 pre.1 n2.n n2.same (sym scan.ensures ∙ n2.is)
-
-pub returns-then-same-3 : goal.returns-then-same-3
-returns-then-same-3 c = let args = c.args in
-    let pre = c.requires in
-    let scan = c.scan in
-    let n3 = c.in-Several in
-    let s = args.text.now in
-    let tb = args.table.now in
-    sym (ap (λ (z : Bool). outcome_of (cond z (Done n3.n) (placed_answer 15 0))) c.if-same-3.true) ∙ fin_several s tb pre.0 pre.1 n3.n n3.same (sym scan.ensures ∙ n3.is)
-
-pub returns-in-Denied : goal.returns-in-Denied
-returns-in-Denied c = let args = c.args in
-    let pre = c.requires in
-    let s = args.text.now in
-    let tb = args.table.now in
-    fin_denied s tb pre.0 pre.1 c.in-Denied.r (sym c.scan.ensures ∙ c.in-Denied.is)
-
-pub returns-else-same : goal.returns-else-same
-returns-else-same c = let args = c.args in
-    let pre = c.requires in
-    let scan = c.scan in
-    let n = c.in-Map in
-    let s = args.text.now in
-    let tb = args.table.now in
-    ap outcome_of c.at_place.ensures ∙ sym (ap (λ (z : Bool). outcome_of (cond z (Done n.n) (placed_answer 15 0))) c.if-same.false) ∙ fin_map s tb pre.0 pre.1 n.n n.same (sym scan.ensures ∙ n.is)
-
-pub returns-else-same-2 : goal.returns-else-same-2
-returns-else-same-2 c = let args = c.args in
-    let pre = c.requires in
-    let scan = c.scan in
-    let n2 = c.in-Single in
-    let s = args.text.now in
-    let tb = args.table.now in
-    ap outcome_of c.at_place-in-Single.ensures ∙ sym (ap (λ (z : Bool). outcome_of (cond z (Done n2.n) (placed_answer 15 0))) c.if-same-2.false) ∙ fin_single s tb pre.0 pre.1 n2.n n2.same (sym scan.ensures ∙ n2.is)
-
-pub returns-else-same-3 : goal.returns-else-same-3
-returns-else-same-3 c = let args = c.args in
-    let pre = c.requires in
-    let scan = c.scan in
-    let n3 = c.in-Several in
-    let s = args.text.now in
-    let tb = args.table.now in
-    ap outcome_of c.at_place-in-Several.ensures ∙ sym (ap (λ (z : Bool). outcome_of (cond z (Done n3.n) (placed_answer 15 0))) c.if-same-3.false) ∙ fin_several s tb pre.0 pre.1 n3.n n3.same (sym scan.ensures ∙ n3.is)
+pub returns : goal.returns
+returns c = let s = c.args.text.now in
+    ap (λ (b : Bool). cond b (done c.in_ok-top.top.count) (refused_with (nowhere 15))) (sym (flip c.in_ok-top.top.same c.if-not-top.false))
+    ∙ finished_by s c.args.table.now c.requires.formed c.requires.short c.in_ok-top.top (sym (c.whole.ensures.answer ∙ ap (λ (w : Walk). top_view c.args.table.now w.same (top_at s)) c.start.ensures) ∙ c.in_ok-top.was)
+  where
+    flip : (b : Bool) → not b ≡ false → b ≡ true
+    flip true e = refl
+    flip false e = sym e

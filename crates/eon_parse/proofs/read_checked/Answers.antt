@@ -1,110 +1,36 @@
-use mathlib.Core.Path.{sym, ap, ◌∙◌}
+use Rattle.std.proofs.Common.{rules}
+use Rattle.std.specs.Prelude.{Result, Err, ℕ}
+use mathlib.Core.Path.{◌≡◌, sym, ap, ◌∙◌}
 use mathlib.Core.Bool.{false}
 use native.Mathlib.Omega.{arith}
-use Rattle.eon_spec.specs.Calls.{after, outcome_of}
-use Rattle.eon_spec.specs.declared.Answer.{Answer}
-use Rattle.eon_parse.proofs.Calls.{few_map, few_single, few_several, reads_denied, reads_map, reads_map_full, reads_single, reads_single_full, reads_several, reads_several_full}
+use Rattle.eon_spec.specs.Calls.{outcome_of, after, refused_with}
+use Rattle.eon_spec.specs.Refused.{refusal_of}
+use Rattle.eon_spec.specs.declared.refusal.Refusal.{Refusal}
+use Rattle.eon_parse.proofs.Calls.{read_no, few_told, read_full, read_map, read_single, read_several}
+use Rattle.eon_parse.proofs.Tops.{starts_at}
 use Rattle.eon_parse.proofs.read_checked.Goals as goal
 
-pub scan-requires : goal.scan-requires
-scan-requires c = c.requires
-
-pub overflow_mul-n : goal.overflow_mul-n
-overflow_mul-n c = let args = c.args in
-    let pre = c.requires in
-    let s = args.text.now in
-    let tb = args.table.now in
-    omega (arith, few_map s tb pre.0 pre.1 false c.in-Map.n c.in-Map.same (sym c.scan.ensures ∙ c.in-Map.is))
-
-pub fill_top_map-requires : goal.fill_top_map-requires
-fill_top_map-requires c = let pre = c.requires in
-    pre
-
-pub returns-then-n-table : goal.returns-then-n-table
-returns-then-n-table c = let args = c.args in
-    let pre = c.requires in
-    let scan = c.scan in
-    let n = c.in-Map in
-    let if1 = c.if-n-table in
-    let fill-top-map = c.fill_top_map in
-    let s = args.text.now in
-    let tb = args.table.now in
-    reads_map s tb pre.0 pre.1 n.n n.same (sym scan.ensures ∙ n.is) if1.true fill-top-map.new.table fill-top-map.ensures.table
-
-pub overflow_mul-n-in-Single : goal.overflow_mul-n-in-Single
-overflow_mul-n-in-Single c = let args = c.args in
-    let pre = c.requires in
-    let s = args.text.now in
-    let tb = args.table.now in
-    omega (arith, few_single s tb pre.0 pre.1 false c.in-Single.n c.in-Single.same (sym c.scan.ensures ∙ c.in-Single.is))
-
-pub fill_top_value-requires : goal.fill_top_value-requires
-fill_top_value-requires c = let pre = c.requires in
-    pre
-
-pub returns-then-n-table-2 : goal.returns-then-n-table-2
-returns-then-n-table-2 c = let args = c.args in
-    let pre = c.requires in
-    let scan = c.scan in
-    let n2 = c.in-Single in
-    let if2 = c.if-n-table-2 in
-    let fill-top-value = c.fill_top_value in
-    let s = args.text.now in
-    let tb = args.table.now in
-    reads_single s tb pre.0 pre.1 n2.n n2.same (sym scan.ensures ∙ n2.is) if2.true fill-top-value.new.table fill-top-value.ensures.table
+pub returns-in_err-top : goal.returns-in_err-top
+returns-in_err-top c = let s = c.args.text.now in
+    let e : c.from_residual.result ≡ Err c.in_err-top.field-0.0 = search rules in
+    ap (λ (r : Result ℕ Refusal). after (outcome_of r) c.args.table.now) e ∙ read_no s c.args.table.now c.requires.formed c.requires.short _ _ c.in_err-top.field-0.0 (sym c.whole.ensures.answer ∙ c.in_err-top.was)
 
 pub overflow_mul-count : goal.overflow_mul-count
-overflow_mul-count c = let args = c.args in
-    let pre = c.requires in
-    let s = args.text.now in
-    let tb = args.table.now in
-    omega (arith, few_several s tb pre.0 pre.1 false c.in-Several.count c.in-Several.same (sym c.scan.ensures ∙ c.in-Several.is))
+overflow_mul-count c = let s = c.args.text.now in
+    omega (arith, few_told s c.args.table.now c.requires.formed c.requires.short _ _ c.in_ok-top.top (sym c.whole.ensures.answer ∙ c.in_ok-top.was))
 
-pub fill_top_list-requires : goal.fill_top_list-requires
-fill_top_list-requires c = let pre = c.requires in
-    pre
+pub returns-then-table-count : goal.returns-then-table-count
+returns-then-table-count c = let s = c.args.text.now in
+    ap (λ (r : Refusal). after (refused_with (refusal_of r)) c.args.table.now) c.new.ensures ∙ read_full s c.args.table.now c.requires.formed c.requires.short _ _ c.in_ok-top.top (sym c.whole.ensures.answer ∙ c.in_ok-top.was) c.if-table-count.true
 
-pub returns-then-count-table : goal.returns-then-count-table
-returns-then-count-table c = let args = c.args in
-    let pre = c.requires in
-    let scan = c.scan in
-    let count = c.in-Several in
-    let if3 = c.if-count-table in
-    let fill-top-list = c.fill_top_list in
-    let s = args.text.now in
-    let tb = args.table.now in
-    reads_several s tb pre.0 pre.1 count.count count.same (sym scan.ensures ∙ count.is) if3.true fill-top-list.new.table fill-top-list.ensures.table
+pub returns-in-Map : goal.returns-in-Map
+returns-in-Map c = let s = c.args.text.now in
+    read_map s c.args.table.now c.requires.formed c.requires.short c.start-w.result (starts_at s c.requires.formed c.requires.short c.start-w.result false c.start-w.ensures) _ _ c.in_ok-top.top (sym c.whole.ensures.answer ∙ c.in_ok-top.was) c.if-table-count.false c.as_map.new.out c.in-Map.is c.as_map.ensures.stored
 
-pub returns-in-Denied : goal.returns-in-Denied
-returns-in-Denied c = let args = c.args in
-    let pre = c.requires in
-    let s = args.text.now in
-    let tb = args.table.now in
-    reads_denied s tb pre.0 pre.1 c.in-Denied.r (sym c.scan.ensures ∙ c.in-Denied.is)
+pub returns-in-Single : goal.returns-in-Single
+returns-in-Single c = let s = c.args.text.now in
+    read_single s c.args.table.now c.requires.formed c.requires.short c.start-w.result (starts_at s c.requires.formed c.requires.short c.start-w.result false c.start-w.ensures) _ _ c.in_ok-top.top (sym c.whole.ensures.answer ∙ c.in_ok-top.was) c.if-table-count.false c.one.new.out c.in-Single.is c.one.ensures.stored
 
-pub returns-else-n-table : goal.returns-else-n-table
-returns-else-n-table c = let args = c.args in
-    let pre = c.requires in
-    let scan = c.scan in
-    let n = c.in-Map in
-    let s = args.text.now in
-    let tb = args.table.now in
-    ap (λ (a : Answer). after (outcome_of a) tb) c.at_place.ensures ∙ reads_map_full s tb pre.0 pre.1 n.n n.same (sym scan.ensures ∙ n.is) c.if-n-table.false
-
-pub returns-else-n-table-2 : goal.returns-else-n-table-2
-returns-else-n-table-2 c = let args = c.args in
-    let pre = c.requires in
-    let scan = c.scan in
-    let n2 = c.in-Single in
-    let s = args.text.now in
-    let tb = args.table.now in
-    ap (λ (a : Answer). after (outcome_of a) tb) c.at_place-in-Single.ensures ∙ reads_single_full s tb pre.0 pre.1 n2.n n2.same (sym scan.ensures ∙ n2.is) c.if-n-table-2.false
-
-pub returns-else-count-table : goal.returns-else-count-table
-returns-else-count-table c = let args = c.args in
-    let pre = c.requires in
-    let scan = c.scan in
-    let count = c.in-Several in
-    let s = args.text.now in
-    let tb = args.table.now in
-    ap (λ (a : Answer). after (outcome_of a) tb) c.at_place-in-Several.ensures ∙ reads_several_full s tb pre.0 pre.1 count.count count.same (sym scan.ensures ∙ count.is) c.if-count-table.false
+pub returns-in-Several : goal.returns-in-Several
+returns-in-Several c = let s = c.args.text.now in
+    read_several s c.args.table.now c.requires.formed c.requires.short c.start-w.result (starts_at s c.requires.formed c.requires.short c.start-w.result false c.start-w.ensures) _ _ c.in_ok-top.top (sym c.whole.ensures.answer ∙ c.in_ok-top.was) c.if-table-count.false c.as_list.new.out c.in-Several.is c.as_list.ensures.stored

@@ -1,22 +1,13 @@
-use mathlib.Core.Path.{◌≡◌, sym, ap, ◌∙◌}
-use native.Mathlib.Omega.{arith}
-use Rattle.eon_spec.specs.Layout.{text_of, settings_of}
-use Rattle.eon_put.proofs.Writing.{wrote_none, wrote_then, wrote_as, wrote_length, times, times_none, times_more, times_indent}
+-- A turn puts one indentation more.
+use Rattle.std.proofs.Common.{List, ◌++◌, ℕ, ap, ◌∙◌, subst}
+use Rattle.eon_spec.specs.Layout.{settings_of, add_indent}
+use Rattle.eon_put.proofs.Indents.{indent_more}
 use Rattle.eon_put.proofs.add_indent.Goals as goal
 
-pub loop-k-init : goal.loop-k-init
-loop-k-init c = (omega arith, wrote_as (sym (times_none (text_of c.args.o.indentation))) wrote_none)
-
-pub loop-k-preserved : goal.loop-k-preserved
-loop-k-preserved c = let args = c.args in
-    let loop = c.loop-k in
-    (omega arith, wrote_as (times_more (text_of args.o.indentation) loop.k) (wrote_then loop.invariant.1 c.put_setting-at.ensures))
-
-pub shape_of-out : goal.shape_of-out
-shape_of-out c = wrote_length c.loop-k.invariant.1
-
-pub returns : goal.returns
-returns c = let args = c.args in
-    let o = settings_of args.o in
-    let e : c.loop-k.k ≡ args.n = omega arith in
-    wrote_as (ap (times o.indentation) e ∙ times_indent o args.n) c.loop-k.invariant.1
+pub loop-preserved : goal.loop-preserved
+loop-preserved g c = let o = settings_of c.args.options.now in
+    let n = c.loop.counter in
+    subst
+    (λ (b : List ℕ). g.S.Sink.puts c.args.sink.now b c.put_all.new.self)
+    (ap (λ (b : List ℕ). add_indent o n ++ b) c.text.ensures ∙ indent_more o n)
+    (g.met.S.Sink.append c.args.sink.now c.loop.sink c.put_all.new.self (add_indent o n) c.text.result.now c.loop.invariant c.put_all.ensures)

@@ -1,11 +1,6 @@
-use Prim.Native.Nat.{◌≤◌, ◌-◌}
-use Rattle.eon_put.specs.Put.{Wrote}
-use Rattle.eon_spec.specs.Layout.{text_of}
-use Rattle.eon_put.proofs.Writing.{times}
+-- As many indentations were put as turns were taken.
+use Rattle.eon_spec.specs.Layout.{settings_of, add_indent}
 use Rattle.eon_put.proofs.add_indent.Given as goal
 
-abbrev pub invariant-loop-k : goal.invariant-loop-k
-invariant-loop-k l = (l.k ≤ l.n) × Wrote l.live l.initial.out l.at-2 (times (text_of l.s) l.k) l.at l.out
-
-abbrev pub decreases-loop-k : goal.decreases-loop-k
-decreases-loop-k l = l.n - l.k
+abbrev pub invariant-loop : goal.invariant-loop
+invariant-loop g l = g.S.Sink.puts l.fn.sink (add_indent (settings_of l.options) l.counter) l.sink

@@ -5,5 +5,5 @@ use Rattle.eon_reader.proofs.first.Goals as goal
 
 pub returns : goal.returns
 returns c =
-    let e = c.new-r.ensures in
-    c.next.ensures.0 ∙ ap (λ (x : Bor (List ℕ)). placed_at x.now c.new-r.result.next) e.0 ∙ ap (placed_at c.args.text.now) e.1 ∙ first_is c.args.text.now
+    let e = c.new.ensures in
+    c.next.ensures.token ∙ ap (λ (x : Bor (List ℕ)). placed_at x.now c.new.result.next) e.text ∙ ap (placed_at c.args.text.now) e.next ∙ first_is c.args.text.now

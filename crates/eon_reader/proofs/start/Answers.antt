@@ -1,6 +1,5 @@
-use mathlib.Core.Path.{sym, ◌∙◌}
+use Rattle.std.proofs.Common.{sym, ◌∙◌, length}
 use borrow.Author.Tests.{eq-eqb, ne_eqb}
-use lib.ListN.{length}
 use Rattle.eon_spec.specs.Utf8.{is_utf8, well_formed_len}
 use Rattle.eon_reader.proofs.Stand.{start_formed, start_other}
 use Rattle.eon_reader.proofs.start.Goals as goal

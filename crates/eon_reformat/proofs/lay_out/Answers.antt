@@ -1,34 +1,36 @@
-use Prim.Native.Nat.{◌≤◌, ◌*◌}
-use lib.ListN.{length}
-use native.Mathlib.Omega.{arith}
+-- The table's room, then the output's, and then both are written.
+use Rattle.std.proofs.Common.{◌≡◌, ℕ, ◌*◌, ◌≤◌, length, Result, Err, sym, ap, ◌∙◌, length-take-le, arith, rules}
+use Rattle.eon_spec.specs.declared.refusal.Refusal.{Refusal}
+use Rattle.eon_spec.specs.Calls.{after_both, outcome_of}
 use Rattle.eon_reformat.proofs.OneCall.{words_within, table_short, out_short, both_written}
+use Rattle.eon_reformat.proofs.lay_out.Goals.{Else-table-n}
 use Rattle.eon_reformat.proofs.lay_out.Goals as goal
 
 pub returns-then-table-n : goal.returns-then-table-n
-returns-then-table-n c = let args = c.args in
-    let pre = c.requires in
-    table_short args.text.now args.work.now args.table.now args.options args.out.now args.n pre.0 pre.1 c.new.result c.new.ensures (omega (arith, c.if-table-n.true))
+returns-then-table-n c = let a = c.args in
+    table_short a.text.now a.work.now a.table.now a.options.now a.out.now a.n c.requires.settings c.requires.finished _ (search (rules, c.new.ensures)) (omega (arith, c.if-table-n.true))
 
-pub copy-requires : goal.copy-requires
-copy-requires c = let args = c.args in
-    let pre = c.requires in
-    let if1 = c.if-table-n in
-    (omega (arith, words_within args.text.now args.work.now args.table.now args.options args.out.now args.n pre.0 pre.1), omega (arith, if1.false))
+within : (c : Else-table-n) → 5 * c.args.n ≤ length c.args.work.now
+within c = let a = c.args in
+    words_within a.text.now a.work.now a.table.now a.options.now a.out.now a.n c.requires.settings c.requires.finished
 
-pub returns-in-Refused : goal.returns-in-Refused
-returns-in-Refused c = let args = c.args in
-    let pre = c.requires in
-    let if1 = c.if-table-n in
-    let format-finished = c.format_finished in
-    let h : ◌≤◌ (5 * args.n) (length args.table.now) = omega (arith, if1.false) in
-    out_short args.text.now args.work.now args.table.now args.options args.out.now args.n pre.0 pre.1 format-finished.result _ format-finished.new.out h c.in-Refused.is format-finished.ensures
+pub returns-in_err-bytes : goal.returns-in_err-bytes
+returns-in_err-bytes c = let a = c.args in
+    let f = c.format_finished in
+    let e : c.from_residual.result ≡ Err c.in_err-bytes.field-0.0 = search (rules, c.from_residual.ensures) in
+    let h : 5 * a.n ≤ length a.table.now = omega (arith, c.if-table-n.false) in
+    ap (λ (r : Result ℕ Refusal). after_both (outcome_of r) a.table.now f.new.out) e
+    ∙ out_short a.text.now a.work.now a.table.now a.options.now a.out.now a.n c.requires.settings c.requires.finished f.result c.in_err-bytes.field-0.0 f.new.out h c.in_err-bytes.was f.ensures
 
-pub returns-in-Done : goal.returns-in-Done
-returns-in-Done c = let args = c.args in
-    let pre = c.requires in
-    let if1 = c.if-table-n in
-    let format-finished = c.format_finished in
-    let bytes = c.in-Done in
-    let copy = c.copy in
-    let h : ◌≤◌ (5 * args.n) (length args.table.now) = omega (arith, if1.false) in
-    both_written args.text.now args.work.now args.table.now args.options args.out.now args.n pre.0 pre.1 format-finished.result _ format-finished.new.out copy.new.to h bytes.is format-finished.ensures copy.ensures
+pub slice_bounds-copy_from_slice-end-3 : goal.slice_bounds-copy_from_slice-end-3
+slice_bounds-copy_from_slice-end-3 c = sym (length-take-le (5 * c.args.n) c.args.work.now (within (goal.at.slice_bounds-copy_from_slice-end-3 c).Else-table-n))
+
+pub copy_from_slice-requires : goal.copy_from_slice-requires
+copy_from_slice-requires c = let h : 5 * c.args.n ≤ length c.args.table.now = omega (arith, c.if-table-n.false) in
+    length-take-le (5 * c.args.n) c.args.table.now h ∙ sym (length-take-le (5 * c.args.n) c.args.work.now (within (goal.at.copy_from_slice-requires c).Else-table-n))
+
+pub returns : goal.returns
+returns c = let a = c.args in
+    let f = c.format_finished in
+    let h : 5 * a.n ≤ length a.table.now = omega (arith, c.if-table-n.false) in
+    both_written a.text.now a.work.now a.table.now a.options.now a.out.now a.n c.requires.settings c.requires.finished f.result c.in_ok-bytes.bytes f.new.out _ h c.in_ok-bytes.was f.ensures (search (rules, c.copy_from_slice.ensures.after))

@@ -1,22 +1,20 @@
-use mathlib.Core.Path.{sym, ◌∙◌}
-use borrow.Author.Tests.{not-true, not-false}
+-- The settings first, then the text and its table.
+use Rattle.std.proofs.Common.{◌≡◌, ℕ, Result, Err, ap, ◌∙◌, rules}
+use Rattle.eon_spec.specs.declared.refusal.Refusal.{Refusal}
+use Rattle.eon_spec.specs.Calls.{after, outcome_of}
 use Rattle.eon_syntax.proofs.Checks.{settings_refused, text_refused, text_finished}
 use Rattle.eon_syntax.proofs.format.Goals as goal
 
 pub returns-then-not-good_settings : goal.returns-then-not-good_settings
-returns-then-not-good_settings c = let args = c.args in
-    settings_refused args.text.now args.table.now args.options args.out.now c.new.result c.new.ensures (sym c.good_settings.ensures ∙ not-true _ c.if-not-good_settings.true-raw)
+returns-then-not-good_settings c = let a = c.args in
+    settings_refused a.text.now a.table.now a.options a.out.now _ (search (rules, c.new.ensures)) (search rules)
 
-pub format_finished-requires : goal.format_finished-requires
-format_finished-requires c = let args = c.args in
-    let good-settings = c.good_settings in
-    let if1 = c.if-not-good_settings in
-    let finished = c.finished in
-    (sym good-settings.ensures ∙ not-false _ if1.false-raw, text_finished args.text.now args.table.now finished.result finished.ensures _ c.in-Done.is)
+pub format_finished-requires-clause-finished : goal.format_finished-requires-clause-finished
+format_finished-requires-clause-finished c = let a = c.args in
+    text_finished a.text.now a.table.now c.finished.result c.finished.ensures _ c.in_ok-n.was
 
-pub returns-in-Refused : goal.returns-in-Refused
-returns-in-Refused c = let args = c.args in
-    let good-settings = c.good_settings in
-    let if1 = c.if-not-good_settings in
-    let finished = c.finished in
-    text_refused args.text.now args.table.now finished.result finished.ensures args.options args.out.now _ c.in-Refused.is (sym good-settings.ensures ∙ not-false _ if1.false-raw)
+pub returns-in_err-n : goal.returns-in_err-n
+returns-in_err-n c = let a = c.args in
+    let e : c.from_residual.result ≡ Err c.in_err-n.field-0.0 = search (rules, c.from_residual.ensures) in
+    ap (λ (x : Result ℕ Refusal). after (outcome_of x) a.out.now) e
+    ∙ text_refused a.text.now a.table.now c.finished.result c.finished.ensures a.options a.out.now c.in_err-n.field-0.0 c.in_err-n.was (search rules)

@@ -1,13 +1,16 @@
-use mathlib.Core.Path.{◌≡◌}
-use Prim.Native.Nat.{◌-◌, ◌≤◌}
-use lib.ListN.{length, drop}
-use Rattle.eon_unescape.specs.Views.{kept, Formed}
+use Rattle.std.proofs.Common.{◌≡◌, ◌≤◌, length}
+use Rattle.eon_unescape.specs.Views.{kept, Formed, BytesOf, TailOf}
 use Rattle.eon_unescape.proofs.next_kept.Given as goal
 
--- `eon_unescape::next_kept` meets its contract. The characters from `at` on are those from `from` on, while only carriage returns are passed.
--- Assumes nothing.
-abbrev pub invariant-loop-at : goal.invariant-loop-at
-invariant-loop-at l = (l.from ≤ l.at) × (l.at ≤ length l.text) × (kept l.text l.from ≡ kept l.text l.at) × (Formed (drop l.from l.text) → Formed (drop l.at l.text))
+-- only carriage returns are passed
+abbrev pub invariant-loop-c : goal.invariant-loop-c
+invariant-loop-c l = record {
+  same : kept l.text ≡ kept l.rest;
+  behind : TailOf l.text l.rest;
+  shorter : length l.rest ≤ length l.text;
+  formed : Formed l.text → Formed l.rest;
+  bytes : BytesOf l.text l.rest;
+}
 
-abbrev pub decreases-loop-at : goal.decreases-loop-at
-decreases-loop-at l = length l.text - l.at
+abbrev pub decreases-loop-c : goal.decreases-loop-c
+decreases-loop-c l = length l.rest

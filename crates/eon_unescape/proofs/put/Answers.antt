@@ -1,6 +1,13 @@
-use mathlib.Core.Path.{sym}
-use lib.Seq.{set_out}
+use Rattle.std.proofs.Common.{◌≡◌, ◌+◌, ◌-◌, sym, arith}
+use Rattle.eon_unescape.proofs.Writes.{sets_past, sets_room}
 use Rattle.eon_unescape.proofs.put.Goals as goal
 
-pub returns-else-at-out : goal.returns-else-at-out
-returns-else-at-out c = sym (set_out c.args.out.now c.args.at c.args.b c.if-at-out.false)
+pub returns-then-out-at-clause-written : goal.returns-then-out-at-clause-written
+returns-then-out-at-clause-written c = let a = c.args in sym (sets_past a.bytes.now a.out.now a.at c.if-out-at.true)
+
+pub returns-clause-written : goal.returns-clause-written
+returns-clause-written c =
+    let a = c.args in let n = c.min-n.result in
+    let z : a.at + n - a.at ≡ n = omega arith in
+    let y = c.copy_from_slice.ensures.after in
+    simp (z, y) (sym (sets_room a.bytes.now a.out.now a.at n (omega arith) c.min-n.ensures))

@@ -1,21 +1,16 @@
-use borrow.Author.Rules.{rules}
-use native.Mathlib.Omega.{arith}
+use Rattle.std.proofs.Common.{sym}
 use Rattle.eon_spec.specs.Utf8.{well_formed_len}
-use Rattle.eon_utf8.proofs.Formed.{formed_on, formed_end, formed_stop}
+use Rattle.eon_utf8.proofs.Formed.{begin_ascii, pass_char, pass_ascii, pass_end}
 use Rattle.eon_utf8.proofs.well_formed_len.Goals as goal
 
-pub loop-at-init : goal.loop-at-init
-loop-at-init c = (search rules, omega arith)
+pub loop-c-init : goal.loop-c-init
+loop-c-init c = begin_ascii c.args.text.now c.ascii_len-at.result c.ascii_len-at.ensures
 
-pub returns-then-n-eq0 : goal.returns-then-n-eq0
-unfolding well_formed_len
-returns-then-n-eq0 c = let args = c.args in
-    let f = formed_stop args.text.now c.skip_ascii-at.result c.char_len-n.result c.char_len-n.ensures.is c.if-n-eq0.true in omega arith
-
-pub loop-at-preserved : goal.loop-at-preserved
-loop-at-preserved c = let args = c.args in
-    let g = formed_on args.text.now c.skip_ascii-at.result c.char_len-n.result c.char_len-n.ensures.is in (omega arith, omega arith)
+pub loop-c-preserved : goal.loop-c-preserved
+loop-c-preserved c =
+    let s = c.args.text.now in let x = c.in-Some in
+    pass_ascii s _ c.ascii_len-at-in-Some.result (pass_char s c.loop-c.at x.c c.loop-c.invariant x.ensures) c.ascii_len-at-in-Some.ensures
 
 pub returns : goal.returns
 unfolding well_formed_len
-returns c = let f = formed_end c.args.text.now c.loop-at.at (omega arith) in omega arith
+returns c = sym (pass_end c.args.text.now c.loop-c.at c.loop-c.invariant c.in_default.ensures)

@@ -1,10 +1,10 @@
 -- Each turn reads on or is one interrupt fewer, and what stands in the text is what the reader has given.
-use Rattle.std.proofs.Common.{length, ◌-◌, ◌≡◌, ◌+◌, ◌≤◌, take}
+use Rattle.std.proofs.Common.{length, ◌-◌, ◌+◌, ◌≤◌, take}
 use Rattle.std.specs.Io.KnownBytes.{Consumes}
 use Rattle.eonfmt.proofs.read_input.Given as goal
 
 abbrev pub invariant-loop-n : goal.invariant-loop-n
-invariant-loop-n g l = (length l.text ≡ length l.initial.text) × (l.n ≤ length l.text) × Consumes (g.R.Read.remaining l.initial.input) (g.R.Read.remaining l.input) (take l.n l.text)
+invariant-loop-n g l = (l.n ≤ length l.text) × Consumes (g.R.Read.remaining l.initial.input) (g.R.Read.remaining l.input) (take l.n l.text)
 
 abbrev pub decreases-loop-n : goal.decreases-loop-n
 decreases-loop-n g l = (length l.initial.text - l.n) + l.interrupts

@@ -1,66 +1,25 @@
-use mathlib.Core.Path.{sym, ◌∙◌}
-use Prim.Native.Nat.{◌+◌, ◌-◌, ◌≤◌}
-use native.Mathlib.Omega.{arith}
-use borrow.Author.Tests.{not-true, not-false}
-use Rattle.eon_table.specs.Words.{word}
-use Rattle.eon_compare.proofs.Ranges.{range_none, range_start, one_fails, one_goes, part_fails, part_goes, inside_le}
+use Rattle.std.proofs.Common.{arith, sym, ap, ◌∙◌}
+use Rattle.eon_compare.proofs.Ranges.{SameTo, range_none, one_fails, one_goes, part_fails, part_goes}
 use Rattle.eon_compare.proofs.records.+same_range.Goals as goal
-
-pub loop-x-init : goal.loop-x-init
-loop-x-init t c = (omega arith, range_start c.args.text_a.now c.args.table_a.now c.args.text_b.now c.args.table_b.now c.args.i c.args.j c.args.n)
-
-pub overflow_add-i : goal.overflow_add-i
-overflow_add-i t c = omega (arith, c.loop-x-test.true, c.requires)
-
-pub overflow_add-j : goal.overflow_add-j
-overflow_add-j t c = omega (arith, c.loop-x-test.true, c.requires)
+use Rattle.eon_compare.proofs.records.+same_range.Goals.{else-i-behind-via-then-i-behind+else-not-same_range, else-i-behind-via-else-i-behind}
 
 pub returns-then-not-same_record : goal.returns-then-not-same_record
-returns-then-not-same_record t c = one_fails c.args.text_a.now c.args.table_a.now c.args.text_b.now c.args.table_b.now c.args.i c.args.j c.args.n c.loop-x.x _ c.loop-x.invariant.1 c.same_record.result c.loop-x-test.true c.same_record.ensures (not-true _ c.if-not-same_record.true-raw)
-
-pub overflow_add-i-in-loop-x : goal.overflow_add-i-in-loop-x
-overflow_add-i-in-loop-x t c = omega (arith, c.loop-x-test.true, c.requires)
-
-pub overflow_sub-n : goal.overflow_sub-n
-overflow_sub-n t c = omega (arith, c.loop-x-test.true, c.requires)
-
-pub overflow_sub-n-in-loop-x : goal.overflow_sub-n-in-loop-x
-overflow_sub-n-in-loop-x t c = omega (arith, c.loop-x-test.true, c.requires)
-
-pub overflow_add-x : goal.overflow_add-x
-overflow_add-x t c = omega (arith, c.loop-x-test.true, c.requires)
-
-pub loop-x-smaller-then-k-eq0 : goal.loop-x-smaller-then-k-eq0
-loop-x-smaller-then-k-eq0 t c = omega (arith, c.loop-x-test.true)
-
-pub loop-x-preserved-then-k-eq0 : goal.loop-x-preserved-then-k-eq0
-loop-x-preserved-then-k-eq0 t c = (omega (arith, c.loop-x-test.true), one_goes c.args.text_a.now c.args.table_a.now c.args.text_b.now c.args.table_b.now c.args.i c.args.j c.args.n c.loop-x.x _ c.loop-x.invariant.1 c.same_record.result c.loop-x-test.true c.same_record.ensures (not-false _ c.if-not-same_record.false-raw))
-
-pub overflow_add-i-in-loop-x-2 : goal.overflow_add-i-in-loop-x-2
-overflow_add-i-in-loop-x-2 t c = omega (arith, c.loop-x-test.true, c.requires)
-
-pub overflow_add-j-in-loop-x : goal.overflow_add-j-in-loop-x
-overflow_add-j-in-loop-x t c = omega (arith, c.loop-x-test.true, c.requires)
-
-pub same_range-requires : goal.same_range-requires
-same_range-requires t c = let k : c.inside-k.result ≤ c.args.n - c.loop-x.x - 1 = omega (arith, c.inside-k.ensures, inside_le (word c.args.table_a.now (c.args.i + c.loop-x.x) 4) (c.args.n - c.loop-x.x - 1)) in
-    (omega (arith, c.loop-x-test.true), (omega (arith, c.loop-x-test.true, c.requires), omega (arith, c.loop-x-test.true, c.requires)))
+returns-then-not-same_record t c = one_fails _ _ _ _ _ _ _ c.loop-i.invariant.1 c.loop-i-test.true (sym c.if-not-same_record.ensures)
 
 pub returns-then-not-same_range : goal.returns-then-not-same_range
-returns-then-not-same_range t c = let k : c.inside-k.result ≤ c.args.n - c.loop-x.x - 1 = omega (arith, c.inside-k.ensures, inside_le (word c.args.table_a.now (c.args.i + c.loop-x.x) 4) (c.args.n - c.loop-x.x - 1)) in
-    part_fails c.args.text_a.now c.args.table_a.now c.args.text_b.now c.args.table_b.now c.args.i c.args.j c.args.n (c.loop-x.x + 1) _ (one_goes c.args.text_a.now c.args.table_a.now c.args.text_b.now c.args.table_b.now c.args.i c.args.j c.args.n c.loop-x.x _ c.loop-x.invariant.1 c.same_record.result c.loop-x-test.true c.same_record.ensures (not-false _ c.if-not-same_record.false-raw)) c.same_range.result c.inside-k.result (omega (arith, c.loop-x-test.true)) c.same_range.ensures (not-true _ c.if-not-same_range.true-raw)
+returns-then-not-same_range t c =
+    let h = one_goes _ _ _ _ _ _ _ c.loop-i.invariant.1 c.loop-i-test.true (sym c.if-not-same_record.ensures) in
+    part_fails _ _ _ _ _ _ _ _ h (omega arith) (omega (arith, c.min.ensures, c.loop-i-test.true)) (sym c.if-not-same_range.ensures)
 
-pub overflow_add-x-in-loop-x : goal.overflow_add-x-in-loop-x
-overflow_add-x-in-loop-x t c = let k : c.inside-k.result ≤ c.args.n - c.loop-x.x - 1 = omega (arith, c.inside-k.ensures, inside_le (word c.args.table_a.now (c.args.i + c.loop-x.x) 4) (c.args.n - c.loop-x.x - 1)) in
-    omega (arith, c.loop-x-test.true, c.requires)
-
-pub loop-x-smaller : goal.loop-x-smaller
-loop-x-smaller t c = let k : c.inside-k.result ≤ c.args.n - c.loop-x.x - 1 = omega (arith, c.inside-k.ensures, inside_le (word c.args.table_a.now (c.args.i + c.loop-x.x) 4) (c.args.n - c.loop-x.x - 1)) in
-    omega (arith, c.loop-x-test.true)
-
-pub loop-x-preserved : goal.loop-x-preserved
-loop-x-preserved t c = let k : c.inside-k.result ≤ c.args.n - c.loop-x.x - 1 = omega (arith, c.inside-k.ensures, inside_le (word c.args.table_a.now (c.args.i + c.loop-x.x) 4) (c.args.n - c.loop-x.x - 1)) in
-    (omega (arith, c.loop-x-test.true), part_goes c.args.text_a.now c.args.table_a.now c.args.text_b.now c.args.table_b.now c.args.i c.args.j c.args.n (c.loop-x.x + 1) _ (one_goes c.args.text_a.now c.args.table_a.now c.args.text_b.now c.args.table_b.now c.args.i c.args.j c.args.n c.loop-x.x _ c.loop-x.invariant.1 c.same_record.result c.loop-x-test.true c.same_record.ensures (not-false _ c.if-not-same_record.false-raw)) c.same_range.result c.inside-k.result (omega (arith, c.loop-x-test.true)) c.same_range.ensures (not-false _ c.if-not-same_range.false-raw))
+pub loop-i-preserved : goal.loop-i-preserved
+loop-i-preserved t c =
+    let h = one_goes _ _ _ _ _ _ _ c.loop-i.invariant.1 c.loop-i-test.true (sym c.if-not-same_record.ensures) in (
+      omega (arith, c.loop-i.invariant.0),
+      elim c.else-i-behind.branch [
+        | else-i-behind-via-then-i-behind+else-not-same_range w ↦ part_goes _ _ _ _ _ _ _ _ h (omega arith) (omega (arith, c.min.ensures, c.loop-i-test.true)) (sym w.if-not-same_range.ensures)
+        | else-i-behind-via-else-i-behind w ↦ ap (SameTo _ _ _ _ _) (omega (arith, w.if-i-behind.false)) ∙ h
+      ],
+    )
 
 pub returns : goal.returns
-returns t c = sym (range_none c.args.text_a.now c.args.table_a.now c.args.text_b.now c.args.table_b.now c.args.i c.args.j c.args.n c.loop-x.x (omega (arith, c.loop-x-test.false))) ∙ c.loop-x.invariant.1
+returns t c = sym (range_none _ _ _ _ _ _ c.loop-i-test.false) ∙ c.loop-i.invariant.1

@@ -1,13 +1,13 @@
-use mathlib.Core.Path.{◌≡◌}
-use Prim.Native.Nat.{◌+◌, ◌-◌, ◌≤◌}
-use Rattle.eon_compare.proofs.Ranges.{Same}
+-- What is left decides.
+use Rattle.std.proofs.Common.{◌≡◌, ◌-◌, ◌≤◌}
+use Rattle.eon_compare.proofs.Ranges.{SameTo}
 use Rattle.eon_compare.proofs.records.+same_range.Given as goal
 
 abbrev pub decreases-same_range : goal.decreases-same_range
-decreases-same_range l = l.n
+decreases-same_range l = l.end - l.from
 
-abbrev pub invariant-loop-x : goal.invariant-loop-x
-invariant-loop-x l = (l.x ≤ l.n) × (Same l.text_a l.table_a l.text_b l.table_b (l.i + l.x) (l.j + l.x) (l.n - l.x) ≡ Same l.text_a l.table_a l.text_b l.table_b l.i l.j l.n)
+abbrev pub invariant-loop-i : goal.invariant-loop-i
+invariant-loop-i l = (l.from ≤ l.i) × (SameTo l.a.text.now l.a.table.now l.b.text.now l.b.table.now l.end l.i ≡ SameTo l.a.text.now l.a.table.now l.b.text.now l.b.table.now l.end l.from)
 
-abbrev pub decreases-loop-x : goal.decreases-loop-x
-decreases-loop-x l = l.n - l.x
+abbrev pub decreases-loop-i : goal.decreases-loop-i
+decreases-loop-i l = l.end - l.i

@@ -1,22 +1,16 @@
-use mathlib.Core.Path.{sym, ap, ◌∙◌}
-use mathlib.Core.List.{[], ◌∷◌}
-use mathlib.Core.Bool.{not}
-use Rattle.eon_spec.specs.Base.{elem}
-use Rattle.eon_spec.specs.Unquote.{starts_with}
-use Rattle.eon_strings.proofs.Bytes.{part_return, part_literal, part_plain}
+use Rattle.std.proofs.Common.{◌∙◌, arith}
+use Rattle.std.proofs.lemmas.Grind.{common_steps}
+use Rattle.eon_strings.proofs.Bytes.{any_elem}
 use Rattle.eon_strings.proofs.strings.is_part.Goals as goal
 
-pub returns-then-contains : goal.returns-then-contains
-returns-then-contains c = let args = c.args in
-    part_return (elem 13 args.text.now) (starts_with (39 ∷ []) args.text.now) (elem 92 args.text.now) (sym c.contains.ensures ∙ c.if-contains.true)
+pub returns-then-starts_with : goal.returns-then-starts_with
+returns-then-starts_with c = let s = c.args.text.now in let e = c.contains.ensures.value ∙ any_elem 13 s in grind (arith, common_steps)
 
-pub returns-then-begins : goal.returns-then-begins
-returns-then-begins c = let args = c.args in
-    let contains = c.contains in
-    part_literal (elem 13 args.text.now) (starts_with (39 ∷ []) args.text.now) (elem 92 args.text.now) (sym contains.ensures ∙ c.if-contains.false) (sym c.begins.ensures ∙ c.if-begins.true)
+pub returns-else-starts_with : goal.returns-else-starts_with
+returns-else-starts_with c =
+    let s = c.args.text.now in let e = c.contains.ensures.value ∙ any_elem 13 s in
+    let d = c.contains-else-starts_with.ensures.value ∙ any_elem 92 s in
+    grind (arith, common_steps)
 
-pub returns : goal.returns
-returns c = let args = c.args in
-    let contains = c.contains in
-    let if1 = c.if-contains in
-    ap not c.contains-2.ensures ∙ part_plain (elem 13 args.text.now) (starts_with (39 ∷ []) args.text.now) (elem 92 args.text.now) (sym contains.ensures ∙ if1.false) (sym c.begins.ensures ∙ c.if-begins.false)
+pub returns-else-not-contains : goal.returns-else-not-contains
+returns-else-not-contains c = let s = c.args.text.now in let e = c.contains.ensures.value ∙ any_elem 13 s in grind (arith, common_steps)

@@ -1,51 +1,36 @@
-use mathlib.Core.Path.{refl, sym, ap, ◌∙◌}
-use Prim.Native.Nat.{◌+◌}
-use native.Mathlib.Omega.{arith}
-use borrow.Author.Rules.{rules}
-use lib.ListN.{get_or}
-use Rattle.eon_token.specs.Machine.{miss, class, classes, accepts, states}
-use Rattle.eon_token.proofs.Tests.{only_feed, only_double, only_backslash}
-use Rattle.eon_token.proofs.Steps.{dq_close, dq_escape, dq_on, esc_stop, esc_on, run_end, closed_suc}
+use Rattle.std.proofs.Common.{◌∙◌, sym, ap, arith}
+use Rattle.eon_token.specs.Machine.{closed}
+use Rattle.eon_token.proofs.Steps.{dq_close, dq_escape, dq_on, dq_end, esc_stop, esc_on, esc_end}
 use Rattle.eon_token.proofs.token_kind.close_double.Goals as goal
 
-pub loop-i-init : goal.loop-i-init
-loop-i-init c = (search rules, refl)
+pub returns-in-34 : goal.returns-in-34
+returns-in-34 c =
+    let l = c.loop-b.invariant in
+    l.run ∙ dq_close _ l.within c.in-Some.ensures.cases.0 c.in-34.is
 
-pub returns-then-text-i-eq34 : goal.returns-then-text-i-eq34
-unfolding class classes
-returns-then-text-i-eq34 c = let args = c.args in
-    let s = args.text.now in
-    let l = c.loop-i in
-    l.invariant.1 ∙ dq_close s l.i (omega arith) (ap class c.if-text-i-eq34.true) ∙ sym (closed_suc 12 l.i)
+pub returns-in_err-taken-in-92 : goal.returns-in_err-taken-in-92
+returns-in_err-taken-in-92 c =
+    let l = c.loop-b.invariant in
+    l.run ∙ dq_escape _ l.within c.in-Some.ensures.cases.0 c.in-92.is ∙ esc_end _ _ c.in_err-taken-in-92.ensures.cases ∙ sym (ap (closed 12) c.from_residual.ensures)
 
-pub loop-i-preserved-then-text-i-ne92 : goal.loop-i-preserved-then-text-i-ne92
-loop-i-preserved-then-text-i-ne92 c = let args = c.args in
-    let s = args.text.now in
-    let l = c.loop-i in
-    let b = get_or s l.i 0 in
-    (omega arith, l.invariant.1 ∙ dq_on s l.i (omega arith) (λ e. c.if-text-i-eq34.false (only_double b e)) (λ e. c.if-text-i-ne92.true (only_backslash b e)))
+pub returns-then-taken-eq10 : goal.returns-then-taken-eq10
+returns-then-taken-eq10 c =
+    let l = c.loop-b.invariant in
+    l.run ∙ dq_escape _ l.within c.in-Some.ensures.cases.0 c.in-92.is ∙ esc_stop _ (omega (arith, l.within, c.in-Some.ensures.cases.1)) c.in_ok-taken-in-92.ensures.cases.0 c.if-taken-eq10.true
 
-pub returns-then-text-taken : goal.returns-then-text-taken
-unfolding class classes accepts states
-returns-then-text-taken c = let args = c.args in
-    let s = args.text.now in
-    let l = c.loop-i in
-    l.invariant.1 ∙ dq_escape s l.i (omega arith) (ap class c.if-text-i-ne92.false) ∙ run_end s (l.i + 1) 18 miss (omega arith)
+pub loop-b-preserved-in-92 : goal.loop-b-preserved-in-92
+loop-b-preserved-in-92 c =
+    let l = c.loop-b.invariant in record {
+      within = omega (arith, l.within, c.in-Some.ensures.cases.1, c.in_ok-taken-in-92.ensures.cases.1);
+      run = l.run ∙ dq_escape _ l.within c.in-Some.ensures.cases.0 c.in-92.is ∙ esc_on _ (omega (arith, l.within, c.in-Some.ensures.cases.1)) c.in_ok-taken-in-92.ensures.cases.0 c.if-taken-eq10.false;
+    }
 
-pub returns-then-text-taken-eq10 : goal.returns-then-text-taken-eq10
-unfolding class classes
-returns-then-text-taken-eq10 c = let args = c.args in
-    let s = args.text.now in
-    let l = c.loop-i in
-    l.invariant.1 ∙ dq_escape s l.i (omega arith) (ap class c.if-text-i-ne92.false) ∙ esc_stop s (l.i + 1) (omega arith) (ap class c.if-text-taken-eq10.true)
-
-pub loop-i-preserved : goal.loop-i-preserved
-unfolding class classes
-loop-i-preserved c = let args = c.args in
-    let s = args.text.now in
-    let l = c.loop-i in
-    (omega arith, l.invariant.1 ∙ dq_escape s l.i (omega arith) (ap class c.if-text-i-ne92.false) ∙ esc_on s (l.i + 1) (omega arith) (λ e. omega (arith, only_feed (get_or s (l.i + 1) 0) e)))
+pub loop-b-preserved : goal.loop-b-preserved
+loop-b-preserved c =
+    let l = c.loop-b.invariant in record {
+      within = omega (arith, l.within, c.in-Some.ensures.cases.1);
+      run = l.run ∙ dq_on _ l.within c.in-Some.ensures.cases.0 (λ e. omega arith) (λ e. omega arith);
+    }
 
 pub returns : goal.returns
-unfolding accepts states
-returns c = c.loop-i.invariant.1 ∙ run_end c.args.text.now c.loop-i.i 16 miss (omega arith)
+returns c = c.loop-b.invariant.run ∙ dq_end _ _ c.in_default.ensures.cases

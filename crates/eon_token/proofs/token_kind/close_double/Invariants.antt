@@ -1,12 +1,13 @@
-use mathlib.Core.Path.{◌≡◌}
-use Prim.Native.Nat.{◌-◌, ◌≤◌}
-use lib.ListN.{length, drop}
+use Rattle.std.proofs.Common.{◌≡◌, ◌-◌, ◌≤◌, length, drop}
 use Rattle.eon_token.specs.Machine.{miss, run}
 use Rattle.eon_token.proofs.token_kind.close_double.Given as goal
 
--- `eon_token::token_kind::close_double` meets its contract: the automaton's run from i on, inside the string, is its run from `from` on.
-abbrev pub invariant-loop-i : goal.invariant-loop-i
-invariant-loop-i l = (l.i ≤ length l.text) × (run 16 miss l.from (drop l.from l.text) ≡ run 16 miss l.i (drop l.i l.text))
+-- The automaton's run over the rest, inside the string, is its run from `from` on.
+abbrev pub invariant-loop-b : goal.invariant-loop-b
+invariant-loop-b l = record {
+  within : length l.rest ≤ length l.text;
+  run : run 16 miss l.from (drop l.from l.text) ≡ run 16 miss (length l.text - length l.rest) l.rest;
+}
 
-abbrev pub decreases-loop-i : goal.decreases-loop-i
-decreases-loop-i l = length l.text - l.i
+abbrev pub decreases-loop-b : goal.decreases-loop-b
+decreases-loop-b l = length l.rest

@@ -1,42 +1,33 @@
-use mathlib.Core.Path.{refl, sym, ap, ◌∙◌}
-use native.Mathlib.Omega.{arith}
-use borrow.Author.Rules.{rules}
-use lib.ListN.{get_or}
-use Rattle.eon_token.specs.Machine.{class, multi_k}
-use Rattle.eon_token.proofs.Steps.{multi_next, multi_close, multi_reset, multi_end, closed_suc}
+use Rattle.std.proofs.Common.{◌∙◌, ◌+◌, drop, sym, ap, inl, inr, arith}
+use Rattle.eon_token.specs.Machine.{class, miss}
+use Rattle.eon_token.proofs.Bytes.{quote_class, only_quote}
+use Rattle.eon_token.proofs.Steps.{is_quote, multi_on, multi_end, multi_final}
 use Rattle.eon_token.proofs.token_kind.close_triple.Goals as goal
 
-pub quote-b-requires : goal.quote-b-requires
-quote-b-requires c = c.requires.1
-
-pub loop-i-init : goal.loop-i-init
-loop-i-init c = (search rules, search rules, refl)
-
-pub returns-then-quotes-eq2 : goal.returns-then-quotes-eq2
-returns-then-quotes-eq2 c = let quote = c.quote-b in
-    let s = c.requires in
-    let a = c.args in
+pub loop-i-preserved-then-text-i : goal.loop-i-preserved-then-text-i
+loop-i-preserved-then-text-i c =
     let l = c.loop-i in
-    let e = ap class c.if-c-b.true ∙ quote.ensures.0 in
-    l.invariant.2 ∙ multi_close s.1 l.quotes (omega arith) a.text.now l.i (omega arith) e c.if-quotes-eq2.true ∙ sym (closed_suc (multi_k a.q) l.i)
+    let q = c.args.quote in record {
+      few = omega arith;
+      run = l.invariant.run ∙ multi_on (is_quote q) l.marks l.invariant.few c.args.text.now l.i c.loop-i-test.true 0 (inr (λ e. c.if-text-i.true (only_quote q _ e ∙ sym c.byte-mark.ensures), omega arith));
+    }
 
-pub loop-i-preserved-then-c-b : goal.loop-i-preserved-then-c-b
-loop-i-preserved-then-c-b c = let quote = c.quote-b in
-    let s = c.requires in
-    let a = c.args in
+pub returns-then-marks-eq2 : goal.returns-then-marks-eq2
+returns-then-marks-eq2 c =
     let l = c.loop-i in
-    let e = ap class c.if-c-b.true ∙ quote.ensures.0 in
-    (omega arith, omega arith, l.invariant.2 ∙ multi_next s.1 l.quotes (omega arith) a.text.now l.i (omega arith) e)
+    let q = c.args.quote in
+    l.invariant.run ∙ multi_on (is_quote q) l.marks l.invariant.few c.args.text.now l.i c.loop-i-test.true 3 (inl (ap class (c.if-text-i.false ∙ c.byte-mark.ensures) ∙ quote_class q, omega (arith, c.if-marks-eq2.true)))
+    ∙ multi_final (is_quote q) miss (l.i + 1) (drop (l.i + 1) c.args.text.now)
 
 pub loop-i-preserved : goal.loop-i-preserved
-loop-i-preserved c = let quote = c.quote-b in
-    let s = c.requires in
-    let a = c.args in
+loop-i-preserved c =
     let l = c.loop-i in
-    (omega arith, omega arith, l.invariant.2 ∙ multi_reset s.1 l.quotes (omega arith) a.text.now l.i (omega arith) (λ e. c.if-c-b.false (quote.ensures.1 (get_or a.text.now l.i 0) e)))
+    let q = c.args.quote in record {
+      few = omega (arith, l.invariant.few, c.if-marks-eq2.false);
+      run = l.invariant.run ∙ multi_on (is_quote q) l.marks l.invariant.few c.args.text.now l.i c.loop-i-test.true _ (inl (ap class (c.if-text-i.false ∙ c.byte-mark.ensures) ∙ quote_class q, omega arith));
+    }
 
 pub returns : goal.returns
-returns c = let s = c.requires in
-    let a = c.args in
+returns c =
     let l = c.loop-i in
-    l.invariant.2 ∙ multi_end s.1 l.quotes (omega arith) a.text.now l.i (omega arith)
+    l.invariant.run ∙ multi_end (is_quote c.args.quote) l.marks l.invariant.few c.args.text.now l.i c.loop-i-test.false

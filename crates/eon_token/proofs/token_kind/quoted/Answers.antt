@@ -1,21 +1,19 @@
-use mathlib.Core.Path.{◌∙◌}
-use native.Mathlib.Omega.{arith}
-use Rattle.eon_token.specs.Machine.{plain_k}
-use Rattle.eon_token.proofs.Steps.{q_stop, q_in, found, ran, closed_zero, closed_some}
+use Rattle.std.proofs.Common.{◌∙◌, ap, sym}
+use Rattle.eon_token.specs.Machine.{class, plain_k, class_of}
+use Rattle.eon_token.proofs.Bytes.{quote_class, only_quote}
+use Rattle.eon_token.proofs.Steps.{is_quote, q_in, found, ran}
 use Rattle.eon_token.proofs.token_kind.quoted.Goals as goal
 
-pub returns-then-text-one : goal.returns-then-text-one
-returns-then-text-one c = let s = c in
-    let a = s.args in
-    ran a.text.now a.start c.stray.result _ c.stray.ensures (q_stop s.requires.1 a.text.now a.start (omega arith) s.requires.3 (omega arith))
+pub returns-in-Some : goal.returns-in-Some
+returns-in-Some c =
+    let a = c.args in
+    let q = a.quote in
+    c.new.ensures ∙ found a.text.now a.start c.plain.result (plain_k (class_of q)) c.in-Some.end c.plain.ensures
+    (q_in (is_quote q) a.text.now a.start c.requires.within (ap class c.requires.quote ∙ quote_class q) (λ l e. c.if-stands.ensures l (only_quote q _ e ∙ sym c.byte.ensures)) ∙ c.in-Some.ensures)
 
-pub returns-then-end-eq0 : goal.returns-then-end-eq0
-returns-then-end-eq0 c = let class = c.class in
-    let s = c in
-    let a = s.args in
-    ran a.text.now a.start c.stray-then-end-eq0.result _ c.stray-then-end-eq0.ensures (q_in s.requires.1 a.text.now a.start (omega arith) s.requires.3 (omega arith) (λ p. c.if-class-q.false (class.ensures ∙ p)) ∙ closed_zero (plain_k a.q) _ _ c.close_one-end.ensures c.if-end-eq0.true)
-
-pub returns : goal.returns
-returns c = let s = c in
-    let a = s.args in
-    found a.text.now a.start a.k (plain_k a.q) c.close_one-end.result s.requires.2 (q_in s.requires.1 a.text.now a.start (omega arith) s.requires.3 (omega arith) (λ p. c.if-class-q.false (c.class.ensures ∙ p)) ∙ closed_some (plain_k a.q) _ _ c.close_one-end.ensures c.if-end-eq0.false)
+pub returns-in-None : goal.returns-in-None
+returns-in-None c =
+    let a = c.args in
+    let q = a.quote in
+    ran a.text.now a.start c.stray.result _ c.stray.ensures
+    (q_in (is_quote q) a.text.now a.start c.requires.within (ap class c.requires.quote ∙ quote_class q) (λ l e. c.if-stands.ensures l (only_quote q _ e ∙ sym c.byte.ensures)) ∙ c.in-None.ensures)

@@ -1,20 +1,20 @@
-use mathlib.Core.Path.{refl, sym, ap, ◌∙◌}
-use Prim.Native.Nat.{ℕ, ◌+◌}
-use native.Mathlib.Omega.{arith}
-use lib.ListN.{drop}
+use Rattle.std.proofs.Common.{◌≡◌, ◌+◌, ◌∙◌, true, false, not, nat_eq, sym, ap, refl, rules}
+use Rattle.eon_spec.specs.declared.token_kind.TokenKind.TheVariants.{Comment}
 use Rattle.eon_token.specs.Machine.{hit}
-use Rattle.eon_token.proofs.Steps.{slash_end, slash_on, comments, before_feed, found, ran}
+use Rattle.eon_token.proofs.Bytes.{feed_is, slash_class, only_slash, span_keeps}
+use Rattle.eon_token.proofs.Steps.{slash_one, comments, found, ran}
 use Rattle.eon_token.proofs.token_kind.slash.Goals as goal
 
-pub returns-then-text-next : goal.returns-then-text-next
-returns-then-text-next c = let a = c.args in
-    ran a.text.now a.start c.stray.result _ c.stray.ensures (slash_end a.text.now a.start (omega arith) (omega arith) (omega arith))
-
-pub returns-then-class-ne7 : goal.returns-then-class-ne7
-returns-then-class-ne7 c = let a = c.args in
-    ran a.text.now a.start c.stray-then-class-ne7.result _ c.stray-then-class-ne7.ensures (slash_on a.text.now a.start (omega arith) (omega arith) (omega arith) (omega arith))
+pub returns-then-not-stands : goal.returns-then-not-stands
+returns-then-not-stands c =
+    let s = c.args.text.now in
+    let start = c.args.start in
+    ran s start c.stray.result _ c.stray.ensures (slash_one s start c.requires.within (slash_class _ c.requires.slash) (λ l e. c.if-not-stands.ensures l (only_slash _ e)))
 
 pub returns : goal.returns
-returns c = let a = c.args in
-    let e = c.find-end.ensures.0 ∙ ap (λ (n : ℕ). a.start + 1 + 1 + n) (before_feed (drop (a.start + 1 + 1) a.text.now)) in
-    found a.text.now a.start 1 1 c.find-end.result refl (comments a.text.now a.start (omega arith) (omega arith) (omega arith) (omega arith) ∙ ap (hit 1) (sym e))
+returns c =
+    let s = c.args.text.now in
+    let start = c.args.start in
+    let e = span_keeps _ s 1 18 (λ b e. let x : true ≡ not (nat_eq b 10) = search rules in feed_is b ∙ sym x) (λ b e. let x : false ≡ not (nat_eq b 10) = search rules in feed_is b ∙ sym x) (start + 1 + 1) _ c.end_while-end.ensures.ends in
+    let next = c.if-not-stands.ensures in
+    c.new.ensures ∙ found s start Comment 1 c.end_while-end.result refl (comments s start c.requires.within (slash_class _ c.requires.slash) next.0 (slash_class _ next.1) ∙ ap (hit 1) (sym e))

@@ -1,32 +1,31 @@
-use mathlib.Core.Path.{sym, ap, ◌∙◌}
-use Prim.Native.Nat.{ℕ, ◌+◌}
-use native.Mathlib.Omega.{arith}
-use Rattle.eon_token.specs.Machine.{plain_k, multi_k}
-use Rattle.eon_token.proofs.Steps.{q_two_end, q_two_on, q_three, found, closed_zero, closed_some, plain_small, plain_two}
+use Rattle.std.proofs.Common.{◌+◌, ◌∙◌, ap, sym, arith}
+use Rattle.eon_token.specs.Machine.{class, plain_k, multi_k, class_of}
+use Rattle.eon_token.proofs.Bytes.{quote_class, only_quote}
+use Rattle.eon_token.proofs.Steps.{is_quote, q_two, q_three, found}
 use Rattle.eon_token.proofs.token_kind.twice.Goals as goal
 
-pub returns-then-text-end : goal.returns-then-text-end
-returns-then-text-end c = let s = c in
-    let a = s.args in
-    found a.text.now a.start a.k (plain_k a.q) (a.start + 1 + 1) s.requires.2 (q_two_end s.requires.1 a.text.now a.start (omega arith) s.requires.3 (omega arith) s.requires.4 (omega arith))
+pub returns-then-not-stands : goal.returns-then-not-stands
+returns-then-not-stands c =
+    let a = c.args in
+    let r = c.requires in
+    let q = a.quote in
+    c.new-empty.ensures ∙ found a.text.now a.start c.plain.result (plain_k (class_of q)) (a.start + 2) c.plain.ensures
+    (q_two (is_quote q) a.text.now a.start (omega (arith, r.within)) (ap class r.first ∙ quote_class q) r.within (ap class r.second ∙ quote_class q) _ (omega arith) (λ l e. c.if-not-stands.ensures l (only_quote q _ e ∙ sym c.byte.ensures)))
 
-pub returns-then-class-q : goal.returns-then-class-q
-returns-then-class-q c = let s = c in
-    let a = s.args in
-    found a.text.now a.start a.k (plain_k a.q) (a.start + 1 + 1) s.requires.2 (q_two_on s.requires.1 a.text.now a.start (omega arith) s.requires.3 (omega arith) s.requires.4 (omega arith) (λ p. c.if-class-q.true (c.class.ensures ∙ p)))
+pub returns-in-Some : goal.returns-in-Some
+returns-in-Some c =
+    let a = c.args in
+    let r = c.requires in
+    let q = a.quote in
+    let third = c.if-not-stands.ensures in
+    c.new.ensures ∙ found a.text.now a.start c.multiline.result (multi_k (class_of q)) c.in-Some.close c.multiline.ensures
+    (q_three (is_quote q) a.text.now a.start (omega (arith, r.within)) (ap class r.first ∙ quote_class q) r.within (ap class r.second ∙ quote_class q) _ (omega arith) third.0 (ap class (third.1 ∙ c.byte.ensures) ∙ quote_class q) _ c.in-Some.ensures)
 
-pub returns-then-close-eq0 : goal.returns-then-close-eq0
-returns-then-close-eq0 c = let s = c in
-    let a = s.args in
-    found a.text.now a.start a.k (plain_k a.q) (a.start + 1 + 1) s.requires.2 (q_three s.requires.1 a.text.now a.start (omega arith) s.requires.3 (omega arith) s.requires.4 (omega arith) (sym c.class.ensures ∙ c.if-class-q.false) _ (closed_zero (multi_k a.q) _ _ c.close_triple-close.ensures c.if-close-eq0.true))
-
-pub overflow_add-kind : goal.overflow_add-kind
-overflow_add-kind c = let pre = c.requires in
-    let p = plain_small pre.1 in
-    let e = pre.2 in
-    omega arith
-
-pub returns : goal.returns
-returns c = let s = c in
-    let a = s.args in
-    found a.text.now a.start (a.k + 2) (multi_k a.q) c.close_triple-close.result (ap (λ (n : ℕ). n + 2) s.requires.2 ∙ plain_two s.requires.1) (q_three s.requires.1 a.text.now a.start (omega arith) s.requires.3 (omega arith) s.requires.4 (omega arith) (sym c.class.ensures ∙ c.if-class-q.false) _ (closed_some (multi_k a.q) _ _ c.close_triple-close.ensures c.if-close-eq0.false))
+pub returns-in-None : goal.returns-in-None
+returns-in-None c =
+    let a = c.args in
+    let r = c.requires in
+    let q = a.quote in
+    let third = c.if-not-stands.ensures in
+    c.new-empty.ensures ∙ found a.text.now a.start c.plain.result (plain_k (class_of q)) (a.start + 2) c.plain.ensures
+    (q_three (is_quote q) a.text.now a.start (omega (arith, r.within)) (ap class r.first ∙ quote_class q) r.within (ap class r.second ∙ quote_class q) _ (omega arith) third.0 (ap class (third.1 ∙ c.byte.ensures) ∙ quote_class q) _ c.in-None.ensures)

@@ -1,9 +1,0 @@
-use Rattle.eon_c.proofs.Words.{answered}
-use Rattle.eon_spec.specs.Calls.{unquoted_outcome}
-use Rattle.eon_c.specs.Words.{part_words}
-use Rattle.eon_c.proofs.eon_unquote.Goals as goal
-
-pub returns : goal.returns
-returns c = let unescape-and-unquote = c.unescape_and_unquote in
-    let e = answered part_words _ (unquoted_outcome unescape-and-unquote.result) _ _ c.part_words.ensures unescape-and-unquote.ensures in
-    record { answer_after = e.0; scratch_after = e.1 }

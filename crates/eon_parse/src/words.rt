@@ -1,0 +1,73 @@
+// The words of a table. A store past its end is none.
+ghost use Rattle.std.specs.Prelude.{◌≡◌, ◌<◌, set};
+ghost use Rattle.std.proofs.lemmas.List.Edits.{sets};
+ghost use Rattle.eon_spec.specs.RecordKind.{word_of};
+ghost use Rattle.eon_parse.specs.Answer.{holds, agrees, words_of};
+
+use eon_spec::RecordKind;
+
+// A record of a table.
+#[derive(Clone, Copy)]
+pub struct Record {
+    pub kind: RecordKind,
+    pub start: u32,
+    pub text_end: u32,
+    pub end: u32,
+    pub size: u32,
+}
+
+impl Record {
+    // Is it the table's record at i?
+    #[tactic(auto, using(crate::proofs::Laws::agrees_5))]
+    pub fn is_in(self, table: &[u32], i: usize) -> bool
+        requires { i < 1000000 }
+        ensures { result ≡ agrees table.now i (words_of self) }
+    {
+        if !holds(table, i, word(self.kind)) {
+            return false;
+        }
+        if !holds(table, i + 1, self.start) {
+            return false;
+        }
+        if !holds(table, i + 2, self.text_end) {
+            return false;
+        }
+        if !holds(table, i + 3, self.end) {
+            return false;
+        }
+        holds(table, i + 4, self.size)
+    }
+
+    pub fn store_in(self, table: &mut [u32], i: usize)
+        requires { i < 1000000 }
+        ensures { table.new ≡ sets table.old i (words_of self) }
+    {
+        put(table, i, word(self.kind));
+        put(table, i + 1, self.start);
+        put(table, i + 2, self.text_end);
+        put(table, i + 3, self.end);
+        put(table, i + 4, self.size);
+    }
+}
+
+// A record's first word.
+fn word(kind: RecordKind) -> u32
+    ensures { result ≡ word_of kind }
+{
+    kind as u32
+}
+
+#[tactic(auto, unfolding(crate::specs::Answer::holds))]
+fn holds(table: &[u32], i: usize, word: u32) -> bool
+    ensures { result ≡ holds table.now i word }
+{
+    i < table.len() && table[i] == word
+}
+
+fn put(table: &mut [u32], i: usize, word: u32)
+    ensures { table.new ≡ set table.old i word }
+{
+    if i < table.len() {
+        table[i] = word;
+    }
+}

@@ -1,0 +1,36 @@
+// The digits of `\u{..`.
+ghost use Rattle.std.specs.Prelude.{◌≡◌, ◌+◌, ◌*◌, ◌^◌, ◌<◌, ◌≤◌, ◌↔◌, IfSome, IsNone};
+
+// How many digits there are so far, and their number. Public only since a variant of `Mode` holds it.
+#[derive(Clone, Copy)]
+pub struct Digits {
+    pub(crate) count: u32,
+    pub(crate) value: u32,
+    ghost few: { count ≤ 8 },
+    ghost fits: { value < 2 ^ (4 * count) },
+}
+
+impl Digits {
+    pub(crate) fn new() -> Self
+        ensures none { result.count ≡ 0 }
+        ensures zero { result.value ≡ 0 }
+    {
+        Digits { count: 0, value: 0 }
+    }
+
+    // With a digit more, unless there are eight.
+    pub(crate) fn with(self, digit: u32) -> Option<Self>
+        requires { digit < 16 }
+        ensures ninth { IsNone result ↔ (8 ≤ self.count) }
+        ensures count { IfSome result (λ d. d.count ≡ self.count + 1) }
+        ensures value { IfSome result (λ d. d.value ≡ self.value * 16 + digit) }
+    {
+        if self.count < 8 {
+            return Some(Digits {
+                count: self.count + 1,
+                value: self.value * 16 + digit,
+            });
+        }
+        None
+    }
+}
