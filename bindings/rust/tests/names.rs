@@ -83,16 +83,18 @@ fn refusals() {
 fn refusal_list() {
     let names = header_names("eon_refusal", "EON_");
     assert_eq!(library_cases(REASONS, "Reason"), names);
-    let numbers = REASONS
-        .lines()
-        .filter_map(|line| line.trim().strip_prefix("Reason::")?.split_once(" => "));
-    let numbered: Vec<String> = numbers
-        .take(names.len())
-        .map(|(case, number)| {
-            let name = case.split(' ').next().expect("a case");
-            format!("{} {number}", screaming(name))
-        })
-        .collect();
+    // A case with fields may stand on several lines, its number on the last.
+    let mut name = String::new();
+    let mut numbered = Vec::new();
+    for line in REASONS.lines() {
+        if let Some(case) = line.trim().strip_prefix("Reason::") {
+            name = screaming(case.split(' ').next().expect("a case"));
+        }
+        if let Some((_, number)) = line.split_once(" => ") {
+            numbered.push(format!("{name} {number}"));
+        }
+    }
+    numbered.truncate(names.len());
     let wanted = (1..)
         .zip(&names)
         .map(|(number, name)| format!("{name} {number},"));
