@@ -4,7 +4,7 @@
 ghost use Rattle.std.specs.Prelude.{List, [], ◌∷◌, ◌++◌, ℕ};
 ghost use Rattle.eon_spec.specs.Layout.{text_of, settings_of, add_indent};
 
-use eon_spec::FormatOptions;
+use eon_spec::{FormatOptions, Setting};
 
 pub trait Sink {
     // `puts s b t`: the bytes b were put, which made t of s.
@@ -89,16 +89,26 @@ impl Sink for Writer<'_> {
 
 // ---- settings
 
+// Most settings have one byte, which costs less than a copy.
+fn put_setting<S: Sink>(setting: &Setting, sink: &mut S)
+    ensures { S.puts sink.old (text_of setting.now) sink.new }
+{
+    match setting.text() {
+        [byte] => sink.put(*byte),
+        text => sink.put_all(text),
+    }
+}
+
 pub fn newline<S: Sink>(options: &FormatOptions, sink: &mut S)
     ensures { S.puts sink.old (text_of options.now.newline) sink.new }
 {
-    sink.put_all(options.newline.text());
+    put_setting(&options.newline, sink);
 }
 
 pub fn add_indent<S: Sink>(options: &FormatOptions, n: usize, sink: &mut S)
     ensures { S.puts sink.old (add_indent (settings_of options.now) n) sink.new }
 {
     for _ in 0..n {
-        sink.put_all(options.indentation.text());
+        put_setting(&options.indentation, sink);
     }
 }
