@@ -24,19 +24,19 @@ bounds lo hi b e = (le_of lo b (and_left (leb lo b) (leb b hi) e), le_of b hi (a
 
 -- the bytes that a code point gets, by its size
 module _ (c : ℕ) where
-  sized_1 : c < 0x80 → encode_char c ≡ c ∷ []
+  pub sized_1 : c < 0x80 → encode_char c ≡ c ∷ []
   unfolding encode_char
   sized_1 h = rw (lt-ltb c 0x80 h, encode_char)
 
-  sized_2 : 0x80 ≤ c → c < 0x800 → encode_char c ≡ (0xC0 + c / 64) ∷ (0x80 + c % 64) ∷ []
+  pub sized_2 : 0x80 ≤ c → c < 0x800 → encode_char c ≡ (0xC0 + c / 64) ∷ (0x80 + c % 64) ∷ []
   unfolding encode_char
   sized_2 h k = rw (le-ltb c 0x80 h, encode_char) (rw (lt-ltb c 0x800 k))
 
-  sized_3 : 0x800 ≤ c → c < 0x10000 → encode_char c ≡ (0xE0 + c / 4096) ∷ (0x80 + (c / 64) % 64) ∷ (0x80 + c % 64) ∷ []
+  pub sized_3 : 0x800 ≤ c → c < 0x10000 → encode_char c ≡ (0xE0 + c / 4096) ∷ (0x80 + (c / 64) % 64) ∷ (0x80 + c % 64) ∷ []
   unfolding encode_char
   sized_3 h k = rw (le-ltb c 0x80 (omega arith), encode_char) (rw (le-ltb c 0x800 h) (rw (lt-ltb c 0x10000 k)))
 
-  sized_4 : 0x10000 ≤ c → encode_char c ≡ (0xF0 + c / 262144) ∷ (0x80 + (c / 4096) % 64) ∷ (0x80 + (c / 64) % 64) ∷ (0x80 + c % 64) ∷ []
+  pub sized_4 : 0x10000 ≤ c → encode_char c ≡ (0xF0 + c / 262144) ∷ (0x80 + (c / 4096) % 64) ∷ (0x80 + (c / 64) % 64) ∷ (0x80 + c % 64) ∷ []
   unfolding encode_char
   sized_4 h = rw (le-ltb c 0x80 (omega arith), encode_char) (rw (le-ltb c 0x800 (omega arith)) (rw (le-ltb c 0x10000 h)))
 
@@ -135,7 +135,7 @@ char_encoded (b ∷ s) e = go (row_of table37 b) refl e
     go None p e = absurd (omega arith)
     go (Some m) p e = fitting m (fits m s) p refl e
 
-chars_encoded : (cs : List Character) → AllChars cs → encode (map code_point cs) ≡ joined cs
+pub chars_encoded : (cs : List Character) → AllChars cs → encode (map code_point cs) ≡ joined cs
 unfolding encode
 chars_encoded [] h = refl
 chars_encoded (c ∷ cs) h = rw (char_encoded c h.0, chars_encoded cs h.1)

@@ -25,3 +25,4 @@ pub mod Shown
 pub mod Compare
 pub mod Kept
 pub mod Contains
+pub mod Str

@@ -1,11 +1,11 @@
 use Rattle.std.specs.Prelude.{Option, None, Some}
 -- Laws of UTF-8 that the definitions give.
-use mathlib.Core.Path.{◌≡◌, refl}
+use mathlib.Core.Path.{◌≡◌, refl, ap}
 use mathlib.Core.Bool.{Bool, true, false}
 use mathlib.Core.List.{List, [], ◌∷◌, ◌++◌}
 use Prim.Native.Nat.{ℕ, zero, suc, ◌+◌, ◌≤◌}
 use native.Mathlib.Omega.{arith}
-use lib.ListN.{length, drop, take-append-drop}
+use lib.ListN.{length, take, drop, take-append-drop}
 use lib.Seq.{take-append-le}
 use Rattle.eon_laws.proofs.Facts.{clash}
 use Rattle.eon_spec.specs.Utf8.{Range, in_range, row_of, table37, fits, len_if, char_len, well_formed_from, chars_from, joined}
@@ -71,6 +71,18 @@ chars_append zero (x ∷ a) b h e = go (char_len (x ∷ a)) refl e (λ k. chars_
         let l = char_length x a k p in
         rw (p, char_append x a b k p, chars_from) (rw (take-append-le k a b l, f k l (omega arith)))
 
+-- the characters of a text are its longest well-formed beginning
+pub chars_front : (k : ℕ) (a : List ℕ) → k ≤ length a → take k a ++ joined (chars_from k a) ≡ take (well_formed_from k a) a
+unfolding well_formed_from chars_from
+chars_front zero [] h = refl
+chars_front (suc k) [] h = absurd (omega arith)
+chars_front (suc k) (x ∷ a) h = ap (λ (s : List ℕ). x ∷ s) (chars_front k a (omega arith))
+chars_front zero (x ∷ a) h = go (char_len (x ∷ a)) refl (λ k. chars_front k a)
+  where
+    go : (n : ℕ) → char_len (x ∷ a) ≡ n → ((k : ℕ) → k ≤ length a → take k a ++ joined (chars_from k a) ≡ take (well_formed_from k a) a) → joined (chars_from 0 (x ∷ a)) ≡ take (well_formed_from 0 (x ∷ a)) (x ∷ a)
+    go zero p f = rw (p, well_formed_from, chars_from)
+    go (suc k) p f = rw (p, well_formed_from, chars_from) (ap (λ (s : List ℕ). x ∷ s) (f k (char_length x a k p)))
+
 -- a well-formed text is its characters in a row
 pub chars_concat : (k : ℕ) (a : List ℕ) → k ≤ length a → well_formed_from k a ≡ length a → joined (chars_from k a) ≡ drop k a
 unfolding well_formed_from chars_from
@@ -85,18 +97,21 @@ chars_concat zero (x ∷ a) h e = go (char_len (x ∷ a)) refl e (λ k. chars_co
         let z = rw (p, well_formed_from) at e in
         rw (p, chars_from) (rw (f k (char_length x a k p) (omega arith), take-append-drop k a))
 
--- a well-formed text and another behind it are well-formed
-pub well_formed_append : (k : ℕ) (a b : List ℕ) → k ≤ length a → well_formed_from k a ≡ length a → well_formed_from 0 b ≡ length b → well_formed_from k (a ++ b) ≡ length a + length b
+-- what stands behind a well-formed text is read anew
+pub well_formed_behind : (k : ℕ) (a b : List ℕ) → k ≤ length a → well_formed_from k a ≡ length a → well_formed_from k (a ++ b) ≡ length a + well_formed_from 0 b
 unfolding well_formed_from
-well_formed_append zero [] b h e f = rw f (omega arith)
-well_formed_append (suc k) [] b h e f = absurd (omega arith)
-well_formed_append (suc k) (x ∷ a) b h e f = let g = well_formed_append k a b (omega arith) (omega arith) f in omega arith
-well_formed_append zero (x ∷ a) b h e f = go (char_len (x ∷ a)) refl e (λ k g p. well_formed_append k a b g p f)
+well_formed_behind zero [] b h e = omega arith
+well_formed_behind (suc k) [] b h e = absurd (omega arith)
+well_formed_behind (suc k) (x ∷ a) b h e = let g = well_formed_behind k a b (omega arith) (omega arith) in omega arith
+well_formed_behind zero (x ∷ a) b h e = go (char_len (x ∷ a)) refl e (λ k. well_formed_behind k a b)
   where
-    go : (n : ℕ) → char_len (x ∷ a) ≡ n → well_formed_from 0 (x ∷ a) ≡ suc (length a) → ((k : ℕ) → k ≤ length a → well_formed_from k a ≡ length a → well_formed_from k (a ++ b) ≡ length a + length b) → well_formed_from 0 (x ∷ (a ++ b)) ≡ suc (length a) + length b
+    go : (n : ℕ) → char_len (x ∷ a) ≡ n → well_formed_from 0 (x ∷ a) ≡ suc (length a) → ((k : ℕ) → k ≤ length a → well_formed_from k a ≡ length a → well_formed_from k (a ++ b) ≡ length a + well_formed_from 0 b) → well_formed_from 0 (x ∷ (a ++ b)) ≡ suc (length a) + well_formed_from 0 b
     go zero p e f = absurd (let z = rw (p, well_formed_from) at e in omega arith)
     go (suc k) p e f =
         let z = rw (p, well_formed_from) at e in
-        let l = char_length x a k p in
-        let g = f k l (omega arith) in
+        let g = f k (char_length x a k p) (omega arith) in
         rw (char_append x a b k p, well_formed_from) (omega arith)
+
+-- a well-formed text and another behind it are well-formed
+pub well_formed_append : (k : ℕ) (a b : List ℕ) → k ≤ length a → well_formed_from k a ≡ length a → well_formed_from 0 b ≡ length b → well_formed_from k (a ++ b) ≡ length a + length b
+well_formed_append k a b h e f = let g = well_formed_behind k a b h e in omega arith
