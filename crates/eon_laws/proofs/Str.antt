@@ -1,5 +1,5 @@
 -- The library's UTF-8, which `str` has, is that of Table 3-7.
-use Rattle.std.proofs.Common.{◌≡◌, refl, sym, ap, ◌∙◌, ℕ, suc, ◌+◌, ◌-◌, ◌*◌, ◌/◌, ◌%◌, ◌≤◌, ◌<◌, map, ◌⊎◌, inl, inr, Bool, true, false, List, [], ◌∷◌, ◌++◌, length, take, drop, take-append-drop, subst, arith, rules}
+use Rattle.std.proofs.Common.{◌≡◌, refl, sym, ap, ◌∙◌, ℕ, suc, ◌+◌, ◌-◌, ◌*◌, ◌/◌, ◌%◌, ◌≤◌, ◌<◌, map, ◌⊎◌, inl, inr, true, List, [], ◌∷◌, ◌++◌, length, take, drop, take-append-drop, subst, arith, rules}
 use Rattle.std.proofs.lemmas.Bool.Decides.{nat_tests}
 use Rattle.std.proofs.lemmas.Grind.{common_steps}
 use native.Mathlib.Decide.{dec_le}
@@ -121,7 +121,7 @@ unfolding encode_char lib.Utf8.encode
 encodes_joined [] = refl
 encodes_joined (c ∷ cs) = ap (λ (s : List ℕ). encode_char c ++ s) (encodes_joined cs)
 
-str_length : (s : List ℕ) → IsUtf8 s → well_formed_len s ≡ length s
+pub str_length : (s : List ℕ) → IsUtf8 s → well_formed_len s ≡ length s
 str_length s (cs, (h, e)) = let f = sym (encodes_joined cs) ∙ e in
     subst (λ (t : List ℕ). well_formed_len t ≡ length t) f (all_formed (map encode_char cs) (encoded_chars cs h))
 

@@ -11,17 +11,16 @@ use lib.Dec.{eqb, ltb}
 use borrow.Author.Tests.{le-leb, lt-leb, ltb-true, ltb-false}
 use Rattle.eon_spec.specs.Base.{eq_list}
 use Rattle.eon_spec.specs.Refused.{refusal_of}
-use Rattle.eon_spec.specs.Refused as paper
 use Rattle.eon_spec.specs.declared.refusal.Refusal.{Refusal}
 use Rattle.eon_spec.specs.declared.refusal.Reason.TheVariants.{Surplus}
-use Rattle.eon_spec.specs.Utf8.{is_utf8, well_formed_len}
+use Rattle.eon_spec.specs.Utf8.{is_utf8}
 use Rattle.eon_spec.specs.Tree.{Span, TokenTree}
-use Rattle.eon_spec.specs.Parse.{refusal as at_paper, Parsed, parsed, refused_by, parse}
+use Rattle.eon_spec.specs.Parse.{Parsed, parsed, refused_by, parse}
 use Rattle.eon_spec.specs.Records.{words, tree_records}
 use Rattle.eon_laws.proofs.Facts.{list_same}
 use Rattle.eon_laws.proofs.Records.{words_length}
-use Rattle.eon_laws.proofs.Checked.{checked_long, checked_bad, checked_good}
-use Rattle.eon_spec.specs.Calls.{Outcome, done, refused_with, nowhere, parsed_outcome, read_text, then, written, after, outcome_of, fill, read_call, is_finished, read_finished}
+use Rattle.eon_laws.proofs.Checked.{checked_good, checked_then}
+use Rattle.eon_spec.specs.Calls.{Outcome, done, refused_with, nowhere, checked, parsed_outcome, read_text, then, written, after, outcome_of, fill, read_call, is_finished, read_finished}
 use Rattle.eon_token.specs.Place.{span, kind_at, next_span, Spot}
 use Rattle.eon_parse.specs.Walk.{refused_at, Out, refuse, got, Records, one, two, inside, header, below, stops, run, end_of}
 use Rattle.eon_parse.specs.Top.{Shape, denied, asMap, asSingle, asSeveral, Whole, denies, gives, whole_of, shape_whole, ended, several_by, list_by, map_by, top_at}
@@ -295,32 +294,24 @@ module _ (s tb : List ℕ) (u8 : is_utf8 s ≡ true) (short : length s ≤ 65535
         let f : Held (gives k.records) tb tb' = subst (λ (x : Whole). Held x tb tb') k.gives_it held in
         once_given tb' (parse s) t.count k.records (whole_is s u8 ∙ k.gives_it) k.count (f (omega (arith, words_length k.records, few k.records k.gives_it))) text_is
 
--- ---- a text that is too long, or not UTF-8
+-- ---- a text that can not be read
 
-module _ (s tb : List ℕ) where
-  refused_read : (r : paper.Refusal) → read_text s ≡ refused_with r → after (refused_with r) tb ≡ read_call s tb
+module _ (s tb : List ℕ) (r : Refusal) (e : checked s done ≡ refused_with (refusal_of r)) where
+  unread : read_text s ≡ refused_with (refusal_of r)
+  unfolding read_text
+  unread = checked_then s (λ t. parsed_outcome (parse t)) ∙ ap (λ (o : Outcome (List ℕ)). then o (λ t. parsed_outcome (parse t))) e
+
+  pub read_refused : after (refused_with (refusal_of r)) tb ≡ read_call s tb
   unfolding read_call fill
-  refused_read r e = sym (ap (λ (o : Outcome TokenTree). fill tb (then o (λ t. done (length (tree_records t), words (tree_records t))))) e)
+  read_refused = sym (ap (λ (o : Outcome TokenTree). fill tb (then o (λ t. done (length (tree_records t), words (tree_records t))))) unread)
 
-  refused_fin : (r : paper.Refusal) → read_text s ≡ refused_with r → refused_with r ≡ then (read_finished s tb) count_of
+  pub finished_refused : refused_with (refusal_of r) ≡ then (read_finished s tb) count_of
   unfolding read_finished
-  refused_fin r e = sym (ap (λ (o : Outcome TokenTree). then (then o (finish tb)) count_of) e)
+  finished_refused = sym (ap (λ (o : Outcome TokenTree). then (then o (finish tb)) count_of) unread)
 
-  pub long_text : 65535 < length s → read_text s ≡ refused_with (at_paper 1 (span 65535 65535))
-  unfolding read_text
-  long_text h = checked_long s (λ t. parsed_outcome (parse t)) h
+  pub text_refused : refused_with (refusal_of r) ≡ then (read_text s) count_of
+  text_refused = sym (ap (λ (o : Outcome TokenTree). then o count_of) unread)
 
-  pub bad_text : length s ≤ 65535 → (n : ℕ) → n ≡ well_formed_len s → (n ≡ length s → ⊥) → read_text s ≡ refused_with (at_paper 2 (span n n))
-  unfolding read_text
-  bad_text h n e f = checked_bad s (λ t. parsed_outcome (parse t)) h n e f
-
-  -- a refusal of the text is the call's
-  pub read_refused : (r : Refusal) → read_text s ≡ refused_with (refusal_of r) → after (refused_with (refusal_of r)) tb ≡ read_call s tb
-  read_refused r e = refused_read (refusal_of r) e
-
-  pub finished_refused : (r : Refusal) → read_text s ≡ refused_with (refusal_of r) → refused_with (refusal_of r) ≡ then (read_finished s tb) count_of
-  finished_refused r e = refused_fin (refusal_of r) e
-
-  pub once_refused : (r : Refusal) → read_text s ≡ refused_with (refusal_of r) → read_finished s tb ≡ read_text s
+  pub once_refused : read_finished s tb ≡ read_text s
   unfolding read_finished
-  once_refused r e = ap (λ (o : Outcome TokenTree). then o (finish tb)) e ∙ sym e
+  once_refused = ap (λ (o : Outcome TokenTree). then o (finish tb)) unread ∙ sym unread

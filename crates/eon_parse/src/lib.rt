@@ -1,13 +1,12 @@
 // The reader: from tokens to the record table.
 #![tactic(auto)]
 
-ghost use Rattle.std.specs.Prelude.{◌≡◌, true, ◌+◌, ◌*◌, ◌≤◌, length};
-ghost use Rattle.eon_spec.specs.Utf8.{is_utf8};
+ghost use Rattle.std.specs.Prelude.{◌≡◌, ◌+◌, ◌*◌, ◌≤◌, length};
 ghost use Rattle.eon_spec.specs.Calls.{after, outcome_of, then, read_text, read_call, read_finished};
-ghost use Rattle.eon_parse.specs.Call.{count_of, Checked};
+ghost use Rattle.eon_parse.specs.Call.{count_of};
 
-use eon_spec::{Reason, Refusal};
-use eon_utf8::well_formed_len;
+use eon_spec::{RECORD_WORDS, Reason, Refusal};
+use eon_utf8::Text;
 use readers::one;
 use top::{DEPTH, Form, as_list, as_map, start, whole};
 
@@ -18,55 +17,40 @@ mod walk;
 mod words;
 
 // Reads a text into the table.
+#[tactic(auto, using(crate::proofs::Calls::read_refused))]
 pub fn read(text: &[u8], table: &mut [u32]) -> Result<usize, Refusal>
     ensures { after (outcome_of result) table.new ≡ read_call text.now table.old }
 {
-    checked(text)?;
-    read_checked(text, table)
+    read_checked(Text::of(text)?, table)
 }
 
 // Is the table the text's? Then how many records it has.
+#[tactic(auto, using(crate::proofs::Calls::finished_refused))]
 pub fn finished(text: &[u8], table: &[u32]) -> Result<usize, Refusal>
     ensures { outcome_of result ≡ then (read_finished text.now table.now) count_of }
 {
-    checked(text)?;
-    finished_checked(text, table)
+    finished_checked(Text::of(text)?, table)
 }
 
 // Reads a text into a table that has room for any text of its length, in one walk. A refusal leaves anything there.
+#[tactic(auto, using(crate::proofs::Calls::text_refused, crate::proofs::Calls::once_refused))]
 pub fn read_once(text: &[u8], table: &mut [u32]) -> Result<usize, Refusal>
     requires { length text.now ≤ 65535 → 5 * (length text.now + 1) ≤ length table.old }
     ensures count { outcome_of result ≡ then (read_text text.now) count_of }
     ensures table { read_finished text.now table.new ≡ read_text text.now }
 {
-    checked(text)?;
-    once_checked(text, table)
+    once_checked(Text::of(text)?, table)
 }
 
-// The text is short, and UTF-8.
-fn checked(text: &[u8]) -> Result<(), Refusal>
-    ensures { Checked text.now result }
+// The first walk finds out how the text is read, and whether there is room.
+fn read_checked(text: Text, table: &mut [u32]) -> Result<usize, Refusal>
+    ensures { after (outcome_of result) table.new ≡ read_call text.entry.str.now table.old }
 {
-    if text.len() > 65535 {
-        return Err(Refusal::new(Reason::Overlong, 65535));
-    }
-    let len = well_formed_len(text);
-    if len != text.len() {
-        return Err(Refusal::new(Reason::Garbled, len));
-    }
-    Ok(())
-}
-
-// Reads a checked text into the table: the first walk finds out how the text is read, and whether there is room.
-fn read_checked(text: &[u8], table: &mut [u32]) -> Result<usize, Refusal>
-    requires formed { is_utf8 text.now ≡ true }
-    requires short { length text.now ≤ 65535 }
-    ensures { after (outcome_of result) table.new ≡ read_call text.now table.old }
-{
-    let w = start(text, false);
+    let w = start(text);
+    let text = text.bytes();
     let top = whole(text, &[], &mut [], w)?;
     let count = top.count;
-    if table.len() < 5 * count {
+    if table.len() < RECORD_WORDS * count {
         return Err(Refusal::new(Reason::NoSpace, 0));
     }
     let _ = match top.form {
@@ -77,27 +61,23 @@ fn read_checked(text: &[u8], table: &mut [u32]) -> Result<usize, Refusal>
     Ok(count)
 }
 
-// Is the table a checked text's?
-fn finished_checked(text: &[u8], table: &[u32]) -> Result<usize, Refusal>
-    requires formed { is_utf8 text.now ≡ true }
-    requires short { length text.now ≤ 65535 }
-    ensures { outcome_of result ≡ then (read_finished text.now table.now) count_of }
+#[tactic(auto, using(crate::proofs::Calls::finished_no, crate::proofs::Calls::finished_by))]
+fn finished_checked(text: Text, table: &[u32]) -> Result<usize, Refusal>
+    ensures { outcome_of result ≡ then (read_finished text.entry.str.now table.now) count_of }
 {
-    let top = whole(text, table, &mut [], start(text, true))?;
-    if !top.same {
-        return Err(Refusal::new(Reason::Stale, 0));
+    let top = whole(text.bytes(), table, &mut [], start(text))?;
+    if top.same {
+        return Ok(top.count);
     }
-    Ok(top.count)
+    Err(Refusal::new(Reason::Stale, 0))
 }
 
-// Reads a checked text in one walk.
-fn once_checked(text: &[u8], table: &mut [u32]) -> Result<usize, Refusal>
-    requires formed { is_utf8 text.now ≡ true }
-    requires short { length text.now ≤ 65535 }
-    requires room { 5 * (length text.now + 1) ≤ length table.old }
-    ensures count { outcome_of result ≡ then (read_text text.now) count_of }
-    ensures table { read_finished text.now table.new ≡ read_text text.now }
+#[tactic(auto, using(crate::proofs::Calls::once_no, crate::proofs::Calls::once_yes))]
+fn once_checked(text: Text, table: &mut [u32]) -> Result<usize, Refusal>
+    requires { 5 * (length text.str.now + 1) ≤ length table.old }
+    ensures count { outcome_of result ≡ then (read_text text.entry.str.now) count_of }
+    ensures table { read_finished text.entry.str.now table.new ≡ read_text text.entry.str.now }
 {
-    let top = whole(text, &[], table, start(text, false))?;
+    let top = whole(text.bytes(), &[], table, start(text))?;
     Ok(top.count)
 }

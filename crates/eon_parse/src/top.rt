@@ -1,6 +1,5 @@
 // A whole text: the inside of a map and, if that fails, of a list. One value is no list.
 ghost use Rattle.std.specs.Prelude.{◌≡◌, ◌+◌, true, length, ◌≤◌};
-ghost use Rattle.eon_spec.specs.Utf8.{is_utf8};
 ghost use Rattle.eon_token.specs.Place.{span};
 ghost use Rattle.eon_parse.specs.Walk.{one, two, inside, below};
 ghost use Rattle.eon_parse.specs.Answer.{bared, Stored};
@@ -13,6 +12,7 @@ use crate::walk::{Stop, Walk, refusal_at};
 use crate::words::Record;
 use eon_spec::{Reason, RecordKind, Refusal};
 use eon_token::cursor::Cursor;
+use eon_utf8::Text;
 
 // How a whole text is read.
 #[derive(Clone, Copy)]
@@ -33,15 +33,14 @@ pub struct Top {
 // The most steps of depth.
 pub const DEPTH: usize = 128;
 
-// A walk at the text's start, that compares or does not.
-pub fn start(text: &[u8], same: bool) -> Walk
-    requires { is_utf8 text.now ≡ true }
-    ensures { result ≡ start_of text.now same }
+// A walk at the text's start. The old table agrees as long as no record differs.
+pub fn start(text: Text) -> Walk
+    ensures { result ≡ start_of text.entry.str.now true }
 {
     Walk {
-        cursor: Cursor::new(text),
+        cursor: Cursor::new(text.bytes()),
         count: 0,
-        same,
+        same: true,
     }
 }
 

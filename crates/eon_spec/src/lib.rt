@@ -12,6 +12,12 @@ pub use record_kind::RecordKind;
 pub use refusal::{Reason, Refusal};
 pub use token_kind::TokenKind;
 
+// The most bytes of a text that is read.
+pub const TEXT_MAX: usize = 65535;
+
+// The words of a record in a table.
+pub const RECORD_WORDS: usize = 5;
+
 // A record that shares a byte with a range: its number and its span. C lends a list of these, so the layout is C's.
 #[repr(C)]
 #[derive(Clone, Copy)]

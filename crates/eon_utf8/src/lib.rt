@@ -1,11 +1,15 @@
-// UTF-8 by Table 3-7 of the Unicode standard.
+// UTF-8 by Table 3-7 of the Unicode standard: the texts that can be read (text.rt), and a text's first character.
 #![tactic(auto)]
 
-ghost use Rattle.std.specs.Prelude.{◌≡◌, ◌∷◌, [], ◌+◌, ◌*◌, ◌-◌, ◌≤◌, ◌<◌, nat_lt, length};
-ghost use Rattle.std.specs.List.{take_while};
+ghost use Rattle.std.specs.Prelude.{◌≡◌, ◌∷◌, [], ◌+◌, ◌*◌, ◌-◌, ◌≤◌, ◌<◌};
 ghost use Rattle.std.specs.Char.{InScalarRange};
-ghost use Rattle.eon_spec.specs.Utf8.{code_point, well_formed_len};
+ghost use Rattle.eon_spec.specs.Utf8.{code_point, is_utf8, well_formed_len};
 ghost use Rattle.eon_utf8.specs.Post.{FirstChar};
+
+pub mod text;
+
+use std::str;
+pub use text::Text;
 
 // A character: its code point and its length.
 #[derive(Clone, Copy)]
@@ -18,12 +22,18 @@ pub struct Char {
 pub fn well_formed_len(text: &[u8]) -> usize
     ensures { result ≡ well_formed_len text.now }
 {
-    let mut at = ascii_len(text);
-    while let Some(c) = first_char(&text[at..]) {
-        at += c.len;
-        at += ascii_len(&text[at..]);
+    match str::from_utf8(text) {
+        Ok(text) => text.len(),
+        Err(fault) => fault.valid_up_to(),
     }
-    at
+}
+
+// Is it well-formed to its end?
+#[tactic(auto, unfolding(eon_spec::specs::Utf8::is_utf8))]
+pub fn is_utf8(text: &[u8]) -> bool
+    ensures { result ≡ is_utf8 text.now }
+{
+    well_formed_len(text) == text.len()
 }
 
 // The well-formed character that the text begins with, row by row of the table.
@@ -135,11 +145,4 @@ fn scalar(code: u32) -> char
     ensures { result ≡ code }
 {
     char::from_u32(code).unwrap()
-}
-
-// The number of ASCII bytes that the text begins with.
-fn ascii_len(text: &[u8]) -> usize
-    ensures { result ≡ length (take_while (λ b. nat_lt b 0x80) text.now) }
-{
-    text.iter().take_while(|b| **b < 0x80).count()
 }

@@ -1,0 +1,16 @@
+use Rattle.std.proofs.Common.{sym, ap, ◌∙◌, arith}
+use Rattle.eon_spec.specs.Refused.{refusal_of}
+use Rattle.eon_spec.specs.Calls.{done, refused_with}
+use Rattle.eon_spec.specs.declared.refusal.Refusal.{Refusal}
+use Rattle.eon_laws.proofs.Checked.{checked_long, checked_bad}
+use Rattle.eon_laws.proofs.Str.{valid_len}
+use Rattle.eon_utf8.proofs.text.Text.of.Goals as goal
+
+pub returns-then-bytes-gt-TEXT_MAX-clause-refused : goal.returns-then-bytes-gt-TEXT_MAX-clause-refused
+returns-then-bytes-gt-TEXT_MAX-clause-refused c =
+    checked_long c.args.bytes.now done c.if-bytes-gt-TEXT_MAX.true ∙ sym (ap (λ (r : Refusal). refused_with (refusal_of r)) c.new.ensures)
+
+pub returns-in-Err-clause-refused : goal.returns-in-Err-clause-refused
+returns-in-Err-clause-refused c = let v = c.in-Err.ensures.cases.1 in let short = v.short in let e = c.valid_up_to.ensures in
+    checked_bad c.args.bytes.now done c.if-bytes-gt-TEXT_MAX.false c.valid_up_to.result (e ∙ valid_len c.args.bytes.now _ v) (λ z. omega (arith, short, e))
+    ∙ sym (ap (λ (r : Refusal). refused_with (refusal_of r)) c.new-in-Err.ensures)
