@@ -2,19 +2,17 @@
 use answer_line::reply::{Fault, Reply};
 use answer_line::tokens::Tokens;
 use answer_line::word;
-use eon_spec::{FormatOptions, Setting};
+use eon_spec::{FormatOptions, RECORD_WORDS, Setting, TEXT_MAX};
 use std::alloc::{AllocError, Global};
 
 // More than the longest text, so that one is refused for its length.
-const TEXT_BYTES: usize = 65540;
+const TEXT_BYTES: usize = TEXT_MAX + 5;
 
 // A second text, a table's bytes, a setting, an unquoted value or a layout.
 const ROOM_BYTES: usize = 524288;
 
-// A record for each byte of a text.
-const TABLE_WORDS: usize = 327680;
-
-const RECORD_WORDS: usize = 5;
+// A record more than the longest text has bytes.
+const TABLE_WORDS: usize = RECORD_WORDS * (TEXT_MAX + 1);
 
 #[derive(Drop)]
 pub struct Desk {

@@ -1,42 +1,35 @@
 // The tokens of a text.
-ghost use Rattle.std.specs.Prelude.{◌≡◌, true};
-ghost use Rattle.eon_spec.specs.Utf8.{is_utf8};
-
-use eon_spec::{Reason, Refusal};
+use eon_spec::Refusal;
 use eon_token::token_kind::next_token;
+use eon_utf8::Text;
 use std::fmt;
 use std::fmt::{Display, Formatter};
 
-// The longest text that has tokens.
-const TEXT_BYTES: usize = 65535;
-
-// A text that can be cut into tokens. They are printed as kind, start and end, a blank before each number.
+// A text, by its tokens. They are printed as kind, start and end, a blank before each number.
 #[derive(Clone, Copy)]
-pub struct Tokens<'a> {
-    text: &'a [u8],
-    ghost utf8: { is_utf8 text.now ≡ true },
-}
+pub struct Tokens<'a>(Text<'a>);
 
 impl<'a> Tokens<'a> {
+    ghost use Rattle.std.specs.Prelude.{◌≡◌, IfOk, IfErr};
+    ghost use Rattle.eon_spec.specs.Refused.{refusal_of};
+    ghost use Rattle.eon_spec.specs.Calls.{checked, done, refused_with};
+
     // Refusals 1 and 2 come before the first token.
-    pub fn of(text: &'a [u8]) -> Result<Self, Refusal> {
-        if text.len() > TEXT_BYTES {
-            return Err(Refusal::new(Reason::Overlong, TEXT_BYTES));
-        }
-        let good = eon_utf8::well_formed_len(text);
-        if good != text.len() {
-            return Err(Refusal::new(Reason::Garbled, good));
-        }
-        Ok(Tokens { text })
+    pub fn of(text: &'a [u8]) -> Result<Self, Refusal>
+        ensures text { IfOk result (λ tokens. tokens.0.str.now ≡ text.entry.now) }
+        ensures refused { IfErr result (λ r. checked text.entry.now done ≡ refused_with (refusal_of r)) }
+    {
+        Ok(Tokens(Text::of(text)?))
     }
 }
 
 impl Display for Tokens<'_> {
     // Each token is asked for at the end of the one before.
     fn fmt<W: fmt::Write>(&self, f: &mut Formatter<W>) -> fmt::Result {
+        let text = self.0.bytes();
         let mut from = 0;
         loop {
-            let token = next_token(self.text, from);
+            let token = next_token(text, from);
             let Some(kind) = token.kind else {
                 return Ok(());
             };

@@ -1,9 +1,10 @@
-use Rattle.std.specs.Prelude.{Option, None, Some}
+use Rattle.std.specs.Prelude.{Option, None, Some, nat_lt}
+use Rattle.std.proofs.lemmas.Bool.Decides.{nat_tests}
 -- Laws of UTF-8 that the definitions give.
-use mathlib.Core.Path.{◌≡◌, refl, ap}
+use mathlib.Core.Path.{◌≡◌, refl, ap, sym}
 use mathlib.Core.Bool.{Bool, true, false}
 use mathlib.Core.List.{List, [], ◌∷◌, ◌++◌}
-use Prim.Native.Nat.{ℕ, zero, suc, ◌+◌, ◌≤◌}
+use Prim.Native.Nat.{ℕ, zero, suc, ◌+◌, ◌≤◌, ◌<◌}
 use native.Mathlib.Omega.{arith}
 use lib.ListN.{length, take, drop, take-append-drop}
 use lib.Seq.{take-append-le}
@@ -115,3 +116,21 @@ well_formed_behind zero (x ∷ a) b h e = go (char_len (x ∷ a)) refl e (λ k. 
 -- a well-formed text and another behind it are well-formed
 pub well_formed_append : (k : ℕ) (a b : List ℕ) → k ≤ length a → well_formed_from k a ≡ length a → well_formed_from 0 b ≡ length b → well_formed_from k (a ++ b) ≡ length a + length b
 well_formed_append k a b h e f = let g = well_formed_behind k a b h e in omega arith
+
+-- ---- a text's first character
+
+formed_skip : (k : ℕ) (s : List ℕ) → k ≤ length s → well_formed_from k s ≡ k + well_formed_from 0 (drop k s)
+unfolding well_formed_from
+formed_skip zero s h = omega arith
+formed_skip (suc k) [] h = absurd (omega arith)
+formed_skip (suc k) (b ∷ s) h = let e = formed_skip k s (omega arith) in omega arith
+
+pub goes_on : (n : ℕ) (t : List ℕ) → n ≡ char_len t → 0 < n → well_formed_from 0 t ≡ n + well_formed_from 0 (drop n t)
+unfolding well_formed_from char_len
+goes_on zero t e h = absurd (omega arith)
+goes_on (suc k) [] e h = absurd (omega arith)
+goes_on (suc k) (b ∷ t) e h = let f = formed_skip k t (char_length b t k (sym e)) in rw (sym e, well_formed_from) (omega arith)
+
+pub ascii_char : (b : ℕ) (s : List ℕ) → nat_lt b 0x80 ≡ true → 1 ≡ char_len (b ∷ s)
+unfolding char_len
+ascii_char b s e = grind (arith, nat_tests)

@@ -9,7 +9,7 @@ ghost use Rattle.eon_parse.specs.Walk.{refused_at, text_end};
 ghost use Rattle.eon_parse.specs.Answer.{stop_of, Ready, place, moved, entered, set_cursor, begun, words_of, record_words, put_at, ended_at, Open};
 
 use crate::words::Record;
-use eon_spec::{Reason, RecordKind, Refusal, TokenKind};
+use eon_spec::{RECORD_WORDS, Reason, RecordKind, Refusal, TokenKind};
 use eon_token::cursor::Cursor;
 use eon_token::token_kind::PlacedToken;
 
@@ -112,7 +112,7 @@ impl Walk {
             end: end as u32,
             size: (self.count - begun.base) as u32,
         };
-        self.put(old, out, 5 * begun.base, row)
+        self.put(old, out, RECORD_WORDS * begun.base, row)
     }
 
     // The record is compared with the old table's at i, and stored there.

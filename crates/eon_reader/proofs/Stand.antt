@@ -8,13 +8,15 @@ use native.Mathlib.Nat.{zero-add}
 use native.Mathlib.Omega.{arith}
 use lib.ListN.{length, drop_of_length-le}
 use borrow.Author.Tests.{eq-eqb, ne_eqb}
-use Rattle.eon_spec.specs.Utf8.{is_utf8, well_formed_len, Boundary, chars, chars_from}
+use Rattle.eon_spec.specs.Utf8.{is_utf8, Boundary, chars, chars_from}
 use Rattle.eon_spec.specs.declared.token_kind.TokenKind.{TokenKind}
 use Rattle.eon_spec.specs.declared.token_kind.TokenKind.TheVariants.{Invalid}
 use Rattle.eon_spec.specs.Token.{Token, kind_number, tokens, tokens_from, token_from}
 use Rattle.eon_spec.specs.Parse.{refusal, span_of}
-use Rattle.eon_spec.specs.Calls.{Outcome, done, refused_with, place}
-use Rattle.eon_laws.proofs.Checked.{checked_long, checked_bad, checked_good}
+use Rattle.eon_spec.specs.Calls.{Outcome, done, refused_with, checked, then}
+use Rattle.eon_spec.specs.Refused.{refusal_of}
+use Rattle.eon_spec.specs.declared.refusal.Refusal.{Refusal}
+use Rattle.eon_laws.proofs.Checked.{checked_good, checked_then}
 use Rattle.eon_token.specs.Placed.{placed_at, tokens_at, token_of, kind_in}
 use Rattle.eon_token.specs.declared.token_kind.PlacedToken.{PlacedToken}
 use Rattle.eon_token.proofs.Text.{boundary_start}
@@ -90,14 +92,10 @@ module _ (n : ℕ) (t : Token) (ts : List Token) where
       ap₂ stray_or (sym f) l
 
 module _ (s : List ℕ) where
-  -- 1, then 2, then what a checked text gives
-  pub count_long : 65535 < length s → refused_with (refusal 1 (place 65535)) ≡ count_call s
+  -- refused as each text is, or what the text gives
+  pub count_refused : (r : Refusal) → checked s done ≡ refused_with (refusal_of r) → refused_with (refusal_of r) ≡ count_call s
   unfolding count_call
-  count_long h = sym (checked_long s (λ t. counted (tokens t)) h)
-
-  pub count_bad : length s ≤ 65535 → (n : ℕ) → n ≡ well_formed_len s → (n ≡ length s → ⊥) → refused_with (refusal 2 (place n)) ≡ count_call s
-  unfolding count_call
-  count_bad h n e f = sym (checked_bad s (λ t. counted (tokens t)) h n e f)
+  count_refused r e = sym (checked_then s (λ t. counted (tokens t)) ∙ ap (λ (o : Outcome (List ℕ)). then o (λ t. counted (tokens t))) e)
 
   pub count_good : length s ≤ 65535 → is_utf8 s ≡ true → counted (tokens s) ≡ count_call s
   unfolding count_call

@@ -2,8 +2,7 @@
 // `start` and `token_at`, on a plain slice.
 #![tactic(auto)]
 
-ghost use Rattle.std.specs.Prelude.{◌≡◌, true};
-ghost use Rattle.eon_spec.specs.Utf8.{is_utf8};
+ghost use Rattle.std.specs.Prelude.{◌≡◌};
 ghost use Rattle.eon_spec.specs.Token.{tokens};
 ghost use Rattle.eon_spec.specs.Calls.{outcome_of};
 ghost use Rattle.eon_token.specs.Placed.{placed_at};
@@ -11,10 +10,7 @@ ghost use Rattle.eon_reader.specs.Read.{Stands, start_of, first_token, second_to
 
 use eon_spec::{Reason, Refusal, TokenKind};
 use eon_token::token_kind::{PlacedToken, next_token};
-use eon_utf8::well_formed_len;
-
-// The most bytes of a text that is read.
-const MOST: usize = 65535;
+use eon_utf8::{Text, is_utf8};
 
 // Callers may make one of any fields, so that where it stands is asked by `next` and not by the type.
 #[derive(Clone, Copy)]
@@ -50,10 +46,11 @@ impl<'a> Reader<'a> {
 }
 
 // The text is checked once: a reader of a text that is not well-formed starts at its end.
+#[tactic(auto, unfolding(crate::specs::Read::start_of))]
 pub fn start(text: &[u8]) -> usize
     ensures { result ≡ start_of text.now }
 {
-    if well_formed_len(text) == text.len() {
+    if is_utf8(text) {
         return 0;
     }
     text.len()
@@ -94,28 +91,23 @@ pub fn second(text: &[u8]) -> PlacedToken
 // It costs a pass of the check, a pass of the tokens, and at most five looks for a closing mark that run to the end in vain. Behind
 // an unclosed `"""` no three quotes stand in a row, save the last three of a run of five: two looks at most, and as many for `'''`.
 // A look for a single quote in vain makes an invalid token, which ends the count.
+#[tactic(auto, using(crate::proofs::Stand::count_refused, crate::proofs::Stand::count_good))]
 pub fn count(text: &[u8]) -> Result<usize, Refusal>
     ensures { outcome_of result ≡ count_call text.now }
 {
-    if MOST < text.len() {
-        return Err(Refusal::new(Reason::Overlong, MOST));
-    }
-    let good = well_formed_len(text);
-    if good != text.len() {
-        return Err(Refusal::new(Reason::Garbled, good));
-    }
-    count_checked(text)
+    count_checked(Text::of(text)?)
 }
 
-// How many tokens a checked text has, or the first invalid one.
-fn count_checked(text: &[u8]) -> Result<usize, Refusal>
-    requires { is_utf8 text.now ≡ true }
-    ensures { outcome_of result ≡ counted (tokens text.now) }
+// How many tokens a text has, or the first invalid one. The end of the text is a token as well, which the loop ends at: an iterator that
+// left it out would be one more way over the tokens, for this loop alone.
+fn count_checked(text: Text) -> Result<usize, Refusal>
+    ensures { outcome_of result ≡ counted (tokens text.entry.str.now) }
 {
+    let bytes = text.bytes();
     let mut at = 0;
     let mut n = 0;
     loop {
-        let token = next_token(text, at);
+        let token = next_token(bytes, at);
         let Some(kind) = token.kind else {
             return Ok(n);
         };

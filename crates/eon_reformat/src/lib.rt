@@ -7,23 +7,20 @@ ghost use Rattle.eon_spec.specs.Tree.{TokenTree};
 ghost use Rattle.eon_spec.specs.Records.{tree_records};
 ghost use Rattle.eon_spec.specs.Calls.{outcome_of, done, read_finished, good_settings, after_both, reformat_call};
 
-use eon_spec::{FormatOptions, Reason, Refusal};
+use eon_spec::{FormatOptions, RECORD_WORDS, Reason, Refusal, TEXT_MAX};
 use eon_table::Sheet;
 
-const RECORD_WORDS: usize = 5;
-
-// How long a text may be for each frame, which has room for a record more than the text has bytes. The last is the longest that is read.
+// How long a text may be for each frame, which has room for a record more than the text has bytes. How much stack each takes is a promise
+// of include/eon.h, so the sizes are told here one by one. The last is the longest text that is read.
 const SMALL_TEXT: usize = 2047;
 
 const MEDIUM_TEXT: usize = 16383;
-
-const LARGE_TEXT: usize = 65535;
 
 const SMALL_WORDS: usize = RECORD_WORDS * (SMALL_TEXT + 1);
 
 const MEDIUM_WORDS: usize = RECORD_WORDS * (MEDIUM_TEXT + 1);
 
-const LARGE_WORDS: usize = RECORD_WORDS * (LARGE_TEXT + 1);
+const LARGE_WORDS: usize = RECORD_WORDS * (TEXT_MAX + 1);
 
 // Reads a text and lays it out. On success the table is finished and the answer is how many bytes were written; a refusal leaves both
 // memories as they were. A small text needs no large frame, and pays for clearing a small one only.

@@ -3,7 +3,7 @@ ghost use Rattle.std.specs.Prelude.{◌≡◌};
 ghost use Rattle.eon_spec.specs.Calls.{good_setting, good_settings};
 
 use eon_spec::{FormatOptions, SETTING_MAX, Setting};
-use eon_utf8::well_formed_len;
+use eon_utf8::is_utf8;
 
 // No setting is over SETTING_MAX bytes, and each is UTF-8.
 pub fn good_settings(options: &FormatOptions) -> bool
@@ -15,10 +15,8 @@ pub fn good_settings(options: &FormatOptions) -> bool
         && good_setting(&options.key_value_separator)
 }
 
-#[tactic(auto, unfolding(eon_spec::specs::Utf8::is_utf8))]
 fn good_setting(setting: &Setting) -> bool
     ensures { result ≡ good_setting setting.now }
 {
-    let text = setting.text();
-    setting.len <= SETTING_MAX && well_formed_len(text) == text.len()
+    setting.len <= SETTING_MAX && is_utf8(setting.text())
 }

@@ -12,7 +12,7 @@ use Rattle.eon_spec.specs.Refused.{number_of}
 use Rattle.eon_spec.specs.declared.refusal.Reason.{Reason}
 use Rattle.eon_strings.specs.declared.marks.Contents.{Contents}
 use Rattle.eon_utf8.specs.Post.{StartsWith}
-use Rattle.eon_utf8.proofs.Formed.{ascii_char}
+use Rattle.eon_laws.proofs.Utf8.{ascii_char}
 use Rattle.eon_unescape.proofs.Kept.{kept_more}
 use Rattle.eon_unescape.specs.declared.mode.Mode.{Mode}
 use Rattle.eon_unescape.specs.declared.mode.Mode.TheVariants.{Plain}

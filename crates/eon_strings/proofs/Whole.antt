@@ -8,20 +8,19 @@ use native.Mathlib.Nat.{zero-add}
 use borrow.Author.Tests.{le-leb, lt-leb}
 use lib.ListN.{length}
 use lib.Seq.{sets-eq}
-use Rattle.eon_spec.specs.Utf8.{encode, well_formed_len}
+use Rattle.eon_spec.specs.Utf8.{encode, is_utf8, well_formed_len}
 use Rattle.eon_spec.specs.Unquote.{value, fault, unquote, unquote_chars}
 use Rattle.eon_spec.specs.Unquote as unquoting
 use Rattle.std.specs.Prelude.{Result, Ok, Err, IsErrAnd}
 use Rattle.eon_spec.specs.declared.refusal.Refusal as refusals
-use Rattle.eon_spec.specs.Refused.{Refusal, number_of, refusal_of}
+use Rattle.eon_spec.specs.Refused.{number_of, refusal_of}
 use Rattle.eon_spec.specs.declared.refusal.Reason.{Reason}
-use Rattle.eon_spec.specs.declared.refusal.Reason.TheVariants.{Overlong, Garbled}
-use Rattle.eon_spec.specs.Parse.{refusal}
 use Rattle.eon_spec.specs.declared.Part.{Part}
-use Rattle.eon_spec.specs.Calls.{Outcome, done, refused_with, after, part_of, place, nowhere, checked, fill, written, is_part, opening, handed_back, unescaped_outcome, unquote_call}
+use Rattle.eon_spec.specs.Calls.{Outcome, done, refused_with, after, part_of, nowhere, checked, then, fill, written, is_part, opening, handed_back, unescaped_outcome, unquote_call}
 use Rattle.eon_spec.specs.declared.Which.TheVariants.{Quoted, Scratch}
-use Rattle.eon_laws.proofs.Checked.{checked_long, checked_bad, checked_good, good_text}
-use Rattle.eon_unescape.specs.Views.{kept, Reads}
+use Rattle.eon_laws.proofs.Facts.{eq_of}
+use Rattle.eon_laws.proofs.Checked.{checked_good, checked_then}
+use Rattle.eon_unescape.specs.Views.{kept, Formed, Reads}
 use Rattle.eon_unescape.specs.Modes.{reads_by}
 use Rattle.eon_unescape.specs.declared.mode.Mode.{Mode}
 use Rattle.eon_strings.proofs.Late.{Late, late_by, late_quoted, late_refusal}
@@ -56,24 +55,19 @@ module _ (old : List ℕ) where
       sym (fits (part_of Scratch 0 (length (encode v))) (encode v) (omega (arith, h.0)) ∙ rw (y, z))
   is_written (fault m) l exit len new len2 h g k = absurd h
 
+pub formed_text : (s : List ℕ) → is_utf8 s ≡ true → Formed s
+unfolding is_utf8
+formed_text s u = eq_of (well_formed_len s) (length s) u
+
 module _ (q old : List ℕ) where
-  by_check : (o : Outcome (List ℕ)) → (checked q λ t. unescaped_outcome (unquote t)) ≡ o → unquote_call q old ≡ handed q old o
-  unfolding unquote_call
-  by_check o e = ap (λ (x : Outcome (List ℕ)). handed q old x) e
+  -- a quoted text that can not be read
+  pub call_refused : (r : refusals.Refusal) → checked q done ≡ refused_with (refusal_of r) → after (refused_with (refusal_of r)) old ≡ unquote_call q old
+  unfolding unquote_call fill
+  call_refused r e = sym (ap (handed q old) (checked_then q (λ t. unescaped_outcome (unquote t)) ∙ ap (λ (o : Outcome (List ℕ)). then o (λ t. unescaped_outcome (unquote t))) e))
 
-  refused : (r : Refusal) → handed q old (refused_with r) ≡ after (refused_with r) old
-  unfolding fill
-  refused r = refl
-
-  pub call_long : 65535 < length q → unquote_call q old ≡ after (refused_with (refusal 1 (place 65535))) old
-  call_long h = by_check _ (checked_long q (λ t. unescaped_outcome (unquote t)) h) ∙ refused (refusal 1 (place 65535))
-
-  pub call_bad : length q ≤ 65535 → (well_formed_len q ≡ length q → ⊥) → unquote_call q old ≡ after (refused_with (refusal 2 (place (well_formed_len q)))) old
-  call_bad h n = by_check _ (checked_bad q (λ t. unescaped_outcome (unquote t)) h (well_formed_len q) refl n) ∙ refused (refusal 2 (place (well_formed_len q)))
-
-  pub call_good : length q ≤ 65535 → well_formed_len q ≡ length q → unquote_call q old ≡ placed_call q old (unquote_chars (kept q))
-  unfolding unquote kept
-  call_good h e = by_check _ (checked_good q (λ t. unescaped_outcome (unquote t)) h (good_text q (well_formed_len q) refl e))
+  pub call_good : length q ≤ 65535 → is_utf8 q ≡ true → unquote_call q old ≡ placed_call q old (unquote_chars (kept q))
+  unfolding unquote_call unquote kept
+  call_good h u = ap (handed q old) (checked_good q (λ t. unescaped_outcome (unquote t)) h u)
 
   -- a part of the quoted text, or the scratch
   pub part_is : (v : List ℕ) (start len : ℕ) → is_part q ≡ true → start ≡ opening q → length (encode v) ≡ len → after (done (part_of Quoted start len)) old ≡ placed_call q old (value v)
@@ -85,15 +79,6 @@ module _ (q old : List ℕ) where
   pub scratch_is : (w : unquoting.Unescaped) → is_part q ≡ false → placed_call q old w ≡ scratch_call old w
   scratch_is (value v) e = ap (λ (x : Part × List ℕ). fill old (done x)) (rw (e, handed_back))
   scratch_is (fault n) e = refl
-
-  pub long_refused : (r : refusals.Refusal) → r ≡ record { reason = Overlong; start = 65535; end = 65535 } → 65535 < length q → after (refused_with (refusal_of r)) old ≡ unquote_call q old
-  long_refused r e h = rw e (sym (call_long h))
-
-  pub bad_refused : (r : refusals.Refusal) (n : ℕ) → r ≡ record { reason = Garbled; start = n; end = n } → n ≡ well_formed_len q → length q ≤ 65535 → (n ≡ length q → ⊥) → after (refused_with (refusal_of r)) old ≡ unquote_call q old
-  bad_refused r n e m h f = rw (e, m) (sym (call_bad h (λ x. f (m ∙ x))))
-
-  pub good_is : (n : ℕ) → n ≡ well_formed_len q → length q ≤ 65535 → n ≡ length q → unquote_call q old ≡ placed_call q old (unquote_chars (kept q))
-  good_is n m h e = call_good h (sym m ∙ e)
 
   pub err_placed : (r : Result Part Reason) (x : Reason) → IsErrAnd r (λ y. y ≡ x) → unquote_chars (kept q) ≡ fault (number_of x) → after (outcome_at_start r) old ≡ placed_call q old (unquote_chars (kept q))
   unfolding fill

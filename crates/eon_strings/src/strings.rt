@@ -8,23 +8,14 @@ ghost use Rattle.eon_strings.specs.Views.{outcome_at_start, placed_call, scratch
 
 use crate::marks::{Contents, in_quotes};
 use eon_spec::{Part, Reason, Refusal, Which};
-
-// The longest text that is read.
-const TEXT_MAX: usize = 65535;
+use eon_utf8::Text;
 
 // The value of a quoted text, without its quotes and escapes.
-#[tactic(auto, using(crate::proofs::Whole::long_refused, crate::proofs::Whole::bad_refused))]
+#[tactic(auto, using(crate::proofs::Whole::call_refused, crate::proofs::Whole::call_good))]
 pub fn unescape_and_unquote(quoted: &[u8], scratch: &mut [u8]) -> Result<Part, Refusal>
     ensures { after (outcome_of result) scratch.new ≡ unquote_call quoted.now scratch.old }
 {
-    if TEXT_MAX < quoted.len() {
-        return Err(Refusal::new(Reason::Overlong, TEXT_MAX));
-    }
-    let good = eon_utf8::well_formed_len(quoted);
-    if good != quoted.len() {
-        return Err(Refusal::new(Reason::Garbled, good));
-    }
-    at_start(placed(quoted, scratch))
+    at_start(placed(Text::of(quoted)?, scratch))
 }
 
 // A refusal of a quoted text names its beginning.
@@ -35,11 +26,10 @@ fn at_start(value: Result<Part, Reason>) -> Result<Part, Refusal>
 }
 
 // The value is a part of the quoted slice, as long as what stands between the quotes, or is written to the scratch.
-fn placed(quoted: &[u8], scratch: &mut [u8]) -> Result<Part, Reason>
-    requires short { length quoted.now ≤ 65535 }
-    requires formed { Formed quoted.now }
-    ensures { after (outcome_at_start result) scratch.new ≡ placed_call quoted.now scratch.old (unquote_chars (kept quoted.now)) }
+fn placed(text: Text, scratch: &mut [u8]) -> Result<Part, Reason>
+    ensures { after (outcome_at_start result) scratch.new ≡ placed_call text.entry.str.now scratch.old (unquote_chars (kept text.entry.str.now)) }
 {
+    let quoted = text.bytes();
     let contents = in_quotes(quoted)?;
     if is_part(quoted) {
         return Ok(Part {

@@ -5,11 +5,9 @@ ghost use Rattle.eon_spec.specs.Calls.{record_text};
 ghost use Rattle.eon_table.specs.Words.{word, record_of, part, text_at, has_suffix, more_at, AfterPrefix};
 ghost use Rattle.eon_table.specs.TreeAt.{SomeTree, NextAt};
 
-use eon_spec::RecordKind;
+use eon_spec::{RECORD_WORDS, RecordKind};
 
-// The words of a record, in their order.
-const RECORD_WORDS: usize = 5;
-
+// The words of a record, in the order that include/eon.h gives: C reads the table.
 const KIND: usize = 0;
 
 const START: usize = 1;

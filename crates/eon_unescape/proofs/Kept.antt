@@ -10,7 +10,8 @@ use Rattle.eon_unescape.proofs.Lists.{tail_drop}
 use Rattle.eon_unescape.specs.Views.{kept, Formed, BytesOf, TailOf}
 use Rattle.eon_utf8.specs.Post.{StartsWith}
 use Rattle.eon_utf8.specs.declared.Char.{Char}
-use Rattle.eon_utf8.proofs.Formed.{goes_on, rest}
+use Rattle.std.proofs.lemmas.List.{take_rest}
+use Rattle.eon_laws.proofs.Utf8.{goes_on}
 
 chars_skip : (k : ℕ) (s : List ℕ) → chars_from k s ≡ chars_from 0 (drop k s)
 unfolding chars_from
@@ -46,21 +47,21 @@ module _ (s : List ℕ) (c : Char) (h : StartsWith s c) where
 
   pub kept_skip : c.code ≡ 13 → kept s ≡ kept (take (length s - c.len) (drop c.len s))
   unfolding kept
-  kept_skip q = rw (rest s c.len) (ap (without 13) decode_on ∙ without_it c.code (decode (drop c.len s)) q)
+  kept_skip q = rw (take_rest s c.len) (ap (without 13) decode_on ∙ without_it c.code (decode (drop c.len s)) q)
 
   pub kept_more : (c.code ≡ 13 → ⊥) → kept s ≡ c.code ∷ kept (take (length s - c.len) (drop c.len s))
   unfolding kept
-  kept_more q = rw (rest s c.len) (ap (without 13) decode_on ∙ without_other c.code (decode (drop c.len s)) q)
+  kept_more q = rw (take_rest s c.len) (ap (without 13) decode_on ∙ without_other c.code (decode (drop c.len s)) q)
 
   pub formed_step : Formed s → Formed (take (length s - c.len) (drop c.len s))
   unfolding well_formed_len
-  formed_step f = rw (rest s c.len) (omega (arith, goes_on c.len s h.is h.some, length-drop c.len s, h.inside))
+  formed_step f = rw (take_rest s c.len) (omega (arith, goes_on c.len s h.is h.some, length-drop c.len s, h.inside))
 
   pub shorter : length (take (length s - c.len) (drop c.len s)) < length s
-  shorter = rw (rest s c.len) (omega (arith, length-drop c.len s, h.inside, h.some))
+  shorter = rw (take_rest s c.len) (omega (arith, length-drop c.len s, h.inside, h.some))
 
   pub tail_step : (u : List ℕ) → TailOf u s → length s ≤ length u → TailOf u (take (length s - c.len) (drop c.len s))
-  tail_step u e l = rw (rest s c.len) (tail_drop u s c.len e l h.inside)
+  tail_step u e l = rw (take_rest s c.len) (tail_drop u s c.len e l h.inside)
 
   pub rest_bytes : BytesOf s (take (length s - c.len) (drop c.len s))
-  rest_bytes x e = rw (rest s c.len) (nor_right (elem x (take c.len s)) (elem x (drop c.len s)) (sym (elem_append x (take c.len s) (drop c.len s)) ∙ rw (take-append-drop c.len s) e))
+  rest_bytes x e = rw (take_rest s c.len) (nor_right (elem x (take c.len s)) (elem x (drop c.len s)) (sym (elem_append x (take c.len s) (drop c.len s)) ∙ rw (take-append-drop c.len s) e))

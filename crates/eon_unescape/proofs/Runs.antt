@@ -28,7 +28,7 @@ use Rattle.eon_unescape.specs.Views.{kept, Formed, Reads, is_bare, RunIs}
 use Rattle.eon_unescape.specs.declared.mode.Mode.{Mode}
 use Rattle.eon_unescape.specs.declared.mode.Mode.TheVariants.{Literal, Plain}
 use Rattle.eon_unescape.specs.declared.Next.{Next}
-use Rattle.eon_utf8.proofs.Formed.{rest}
+use Rattle.std.proofs.lemmas.List.{take_rest}
 use Rattle.eon_unescape.proofs.Writes.{sets_append, reads_push, same_as}
 use Rattle.eon_unescape.proofs.Places.{encode_one, encode_two, encode_three, encode_four, ascii_cuts, no_bytes}
 use Rattle.eon_unescape.proofs.Lists.{without_append, or_nothing}
@@ -182,7 +182,7 @@ module _ (s : List ℕ) (m : Mode) (n at : ℕ) (out : List ℕ) (x : RunIs s m 
   pub turn_end : (exit : List ℕ) (at2 : ℕ) → at2 ≡ at + length (take n s) → exit ≡ sets out at (take n s) → kept (take (length s - n) (drop n s)) ≡ [] → reads_by m [] ≡ value [] → Reads at out (reads_by m (kept s)) exit (Ok at2)
   unfolding encode
   turn_end exit at2 p q e f =
-      let k : kept (drop n s) ≡ [] = rw (rest s n) at e in
+      let k : kept (drop n s) ≡ [] = rw (take_rest s n) at e in
       x.reads at out exit (Ok at2) (rw (k, f) (omega (arith, length-take-le n s x.within), q))
 
   pub turn_put : (next : Next) (c : ℕ) (to : Mode) (at2 at3 : ℕ) (out2 out3 exit : List ℕ) (r : Result ℕ Reason) → at2 ≡ at + length (take n s) → out2 ≡ sets out at (take n s)
@@ -190,7 +190,7 @@ module _ (s : List ℕ) (m : Mode) (n at : ℕ) (out : List ℕ) (x : RunIs s m 
       → at3 ≡ at2 + length (encode_char c) → out3 ≡ sets out2 at2 (encode_char c)
       → Reads at3 out3 (reads_by to (kept next.rest.now)) exit r → Reads at out (reads_by m (kept s)) exit r
   turn_put next c to at2 at3 out2 out3 exit r p q e f g o h =
-      let k : kept (drop n s) ≡ next.code ∷ kept next.rest.now = rw (rest s n) at e in
+      let k : kept (drop n s) ≡ next.code ∷ kept next.rest.now = rw (take_rest s n) at e in
       let z : at2 ≡ at + n = omega (arith, length-take-le n s x.within) in
       let w = reads_by to (kept next.rest.now) in
       x.reads at out exit r
@@ -198,4 +198,4 @@ module _ (s : List ℕ) (m : Mode) (n at : ℕ) (out : List ℕ) (x : RunIs s m 
       (reads_push c (at + n) (sets out at (take n s)) w exit r at3 out3 (g ∙ rw z) (o ∙ rw (q, z)) h))
 
   pub turn_formed : Formed (take (length s - n) (drop n s))
-  turn_formed = rw (rest s n) x.formed
+  turn_formed = rw (take_rest s n) x.formed

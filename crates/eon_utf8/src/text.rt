@@ -7,10 +7,11 @@ ghost use Rattle.eon_spec.specs.Calls.{checked, done, refused_with};
 use eon_spec::{Reason, Refusal, TEXT_MAX};
 use std::str;
 
-// A text that is UTF-8 and not too long.
+// A text that is UTF-8, by Table 3-7, and not too long.
 #[derive(Clone, Copy)]
 pub struct Text<'a> {
     str: &'a str,
+    ghost utf8: { is_utf8 str.now ≡ true },
     ghost short: { length str.now ≤ 65535 },
 }
 

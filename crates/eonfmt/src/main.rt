@@ -8,17 +8,17 @@ ghost use Rattle.eon_spec.specs.Refused.{refusal_of};
 ghost use Rattle.eon_spec.specs.Calls.{outcome_of};
 ghost use Rattle.eonfmt.specs.Said.{refusal_line, said, formatted};
 
-use eon_spec::Refusal;
+use eon_spec::{RECORD_WORDS, Refusal, TEXT_MAX};
 use std::io;
 use std::io::{ErrorKind, Read, Write};
 use std::process::ExitCode;
 
 // The memory is fixed and on the stack: docs/DECISIONS.md says how much. A byte more than a text has at most, so that a full buffer is
 // refused by 1.
-const TEXT_BYTES: usize = 65536;
+const TEXT_BYTES: usize = TEXT_MAX + 1;
 
-// 3,276 records of five words.
-const TABLE_WORDS: usize = 16380;
+// The records of an event.
+const TABLE_WORDS: usize = RECORD_WORDS * 3276;
 
 const OUT_BYTES: usize = 65536;
 
