@@ -129,7 +129,7 @@ impl Desk {
         let text = word::bytes(text, &mut self.text)?;
         let table = word::table(word::bytes(table, &mut self.room)?, &mut self.table)?;
         let out = lent(&mut self.room, bytes)?;
-        let written = eon_syntax::format(text, table, FormatOptions::new(), out)?;
+        let written = eon_syntax::format(text, table, FormatOptions::default(), out)?;
         Ok(Reply::Bytes(front(out, written)))
     }
 
@@ -138,7 +138,7 @@ impl Desk {
         let text = word::bytes(text, &mut self.text)?;
         let table = lent(&mut self.table, words)?;
         let out = lent(&mut self.room, bytes)?;
-        let written = eon_syntax::reformat(text, table, FormatOptions::new(), out)?;
+        let written = eon_syntax::reformat(text, table, FormatOptions::default(), out)?;
         Ok(Reply::Bytes(front(out, written)))
     }
 }

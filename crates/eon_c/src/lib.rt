@@ -44,10 +44,7 @@ fn count_words(a: Result<usize, Refusal>) -> [u64; 8]
 fn truth_words(c: Result<bool, Refusal>) -> [u64; 8]
     ensures { result ≡ truth_words (outcome_of c) }
 {
-    match c {
-        Ok(b) => done_words(b as u64, 0, 0),
-        Err(r) => refused_words(r),
-    }
+    count_words(c.map(usize::from))
 }
 
 // What a lookup found; what was there, where it is refused.
@@ -95,15 +92,11 @@ fn options_of(
 ) -> FormatOptions
     ensures { result ≡ options_of indentation.now newline.now space.now separator.now braces }
 {
-    let indentation = Setting::new(indentation);
-    let newline = Setting::new(newline);
-    let space_before_suffix_comment = Setting::new(space);
-    let key_value_separator = Setting::new(separator);
     FormatOptions {
-        indentation,
-        newline,
-        space_before_suffix_comment,
-        key_value_separator,
+        indentation: Setting::new(indentation),
+        newline: Setting::new(newline),
+        space_before_suffix_comment: Setting::new(space),
+        key_value_separator: Setting::new(separator),
         always_include_outer_braces: braces,
     }
 }

@@ -22,11 +22,8 @@ pub fn one(text: &[u8], old: &[u32], out: &mut [u32], w: Walk, depth: usize) -> 
     ensures stored { Stored out.old w (one text.now (below depth text.now) (place w)) out.new }
 {
     let d = comments(text, old, out, w, RecordKind::PrefixComment);
-    // A `match`, as in `list`: with `?` a level of nesting took more stack.
-    match value(text, old, out, d, less(depth)) {
-        Err(x) => Err(x),
-        Ok(v) => Ok(settle(text, old, out, v)),
-    }
+    let v = value(text, old, out, d, less(depth))?;
+    Ok(settle(text, old, out, v))
 }
 
 // A key and its value, with the comments around them.
@@ -54,14 +51,7 @@ pub fn list(text: &[u8], old: &[u32], out: &mut [u32], w: Walk, depth: usize) ->
 {
     let mut d = w;
     while !ends(text, d) {
-        match one(text, old, out, d, depth) {
-            Err(x) => {
-                return Err(x);
-            }
-            Ok(next) => {
-                d = next;
-            }
-        }
+        d = one(text, old, out, d, depth)?;
     }
     Ok(comments(text, old, out, d, RecordKind::ClosingComment))
 }

@@ -14,7 +14,7 @@ pub fn run(text: &[u8], table: &mut [u32], out: &mut [u8]) -> Run
     ensures { IsRun text.now table.old out.old result table.new out.new }
 {
     let read = eon_syntax::read(text, table);
-    let written = eon_syntax::format(text, table, FormatOptions::new(), out);
+    let written = eon_syntax::format(text, table, FormatOptions::default(), out);
     Run { read, written }
 }
 

@@ -119,24 +119,22 @@ impl Setting {
     }
 }
 
-impl FormatOptions {
+impl Default for FormatOptions {
+    ghost is_default = { λ options. options ≡ default_options };
+
     // Tab, line feed, one blank, `: `, and no outer braces.
-    pub fn new() -> Self
-        ensures { result ≡ default_options }
-    {
-        let indentation = Setting::new(b"\t");
-        let newline = Setting::new(b"\n");
-        let space_before_suffix_comment = Setting::new(b" ");
-        let key_value_separator = Setting::new(b": ");
+    fn default() -> Self {
         FormatOptions {
-            indentation,
-            newline,
-            space_before_suffix_comment,
-            key_value_separator,
+            indentation: Setting::new(b"\t"),
+            newline: Setting::new(b"\n"),
+            space_before_suffix_comment: Setting::new(b" "),
+            key_value_separator: Setting::new(b": "),
             always_include_outer_braces: false,
         }
     }
+}
 
+impl FormatOptions {
     pub fn with_indentation(mut self, indentation: Setting) -> Self
         ensures { result ≡ record self { indentation = indentation } }
     {

@@ -25,21 +25,22 @@ pub list-one-requires : goal.list-one-requires
 list-one-requires t c = let s = c.args.text.now in
     (omega (arith, c.decreases), stands s c.args.old.now c.args.out.now c.args.w c.requires (one s (below c.args.depth s)) c.loop-out.d c.loop-out.out c.loop-out.invariant)
 
-pub list-returns-in-Err-clause-walk : goal.list-returns-in-Err-clause-walk
-list-returns-in-Err-clause-walk t c = let s = c.args.text.now in
-    (inside_no s c.args.old.now c.args.out.now c.args.w c.requires (one s (below c.args.depth s)) c.loop-out.d c.loop-out.out c.loop-out.invariant (sym c.ends.ensures ∙ c.loop-out-test.true) _ c.one.ensures.walk _ c.in-Err.is c.one.new.out).walk
+pub list-returns-in_err-d-clause-walk : goal.list-returns-in_err-d-clause-walk
+list-returns-in_err-d-clause-walk t c = let s = c.args.text.now in
+    let e : c.from_residual.result ≡ Err c.in_err-d.field-0.0 = search rules in
+    e ∙ (inside_no s c.args.old.now c.args.out.now c.args.w c.requires (one s (below c.args.depth s)) c.loop-out.d c.loop-out.out c.loop-out.invariant (sym c.ends.ensures ∙ c.loop-out-test.true) _ c.one.ensures.walk _ c.in_err-d.was c.one.new.out).walk
 
-pub list-returns-in-Err-clause-stored : goal.list-returns-in-Err-clause-stored
-list-returns-in-Err-clause-stored t c = let s = c.args.text.now in
-    (inside_no s c.args.old.now c.args.out.now c.args.w c.requires (one s (below c.args.depth s)) c.loop-out.d c.loop-out.out c.loop-out.invariant (sym c.ends.ensures ∙ c.loop-out-test.true) _ c.one.ensures.walk _ c.in-Err.is c.one.new.out).stored
+pub list-returns-in_err-d-clause-stored : goal.list-returns-in_err-d-clause-stored
+list-returns-in_err-d-clause-stored t c = let s = c.args.text.now in
+    (inside_no s c.args.old.now c.args.out.now c.args.w c.requires (one s (below c.args.depth s)) c.loop-out.d c.loop-out.out c.loop-out.invariant (sym c.ends.ensures ∙ c.loop-out-test.true) _ c.one.ensures.walk _ c.in_err-d.was c.one.new.out).stored
 
 pub list-loop-out-smaller : goal.list-loop-out-smaller
 list-loop-out-smaller t c = let s = c.args.text.now in
-    (turned s c.args.old.now c.args.out.now c.args.w c.requires (one s (below c.args.depth s)) c.loop-out.d c.loop-out.out c.loop-out.invariant (one_far s (below c.args.depth s) (below_far c.args.depth s)) (sym c.ends.ensures ∙ c.loop-out-test.true) _ c.one.new.out c.one.ensures.walk c.one.ensures.stored _ c.in-Ok.is).1
+    (turned s c.args.old.now c.args.out.now c.args.w c.requires (one s (below c.args.depth s)) c.loop-out.d c.loop-out.out c.loop-out.invariant (one_far s (below c.args.depth s) (below_far c.args.depth s)) (sym c.ends.ensures ∙ c.loop-out-test.true) _ c.one.new.out c.one.ensures.walk c.one.ensures.stored _ c.in_ok-d.was).1
 
 pub list-loop-out-preserved : goal.list-loop-out-preserved
 list-loop-out-preserved t c = let s = c.args.text.now in
-    (turned s c.args.old.now c.args.out.now c.args.w c.requires (one s (below c.args.depth s)) c.loop-out.d c.loop-out.out c.loop-out.invariant (one_far s (below c.args.depth s) (below_far c.args.depth s)) (sym c.ends.ensures ∙ c.loop-out-test.true) _ c.one.new.out c.one.ensures.walk c.one.ensures.stored _ c.in-Ok.is).0
+    (turned s c.args.old.now c.args.out.now c.args.w c.requires (one s (below c.args.depth s)) c.loop-out.d c.loop-out.out c.loop-out.invariant (one_far s (below c.args.depth s) (below_far c.args.depth s)) (sym c.ends.ensures ∙ c.loop-out-test.true) _ c.one.new.out c.one.ensures.walk c.one.ensures.stored _ c.in_ok-d.was).0
 
 pub list-comments-requires-clause-ready : goal.list-comments-requires-clause-ready
 list-comments-requires-clause-ready t c = let s = c.args.text.now in
@@ -98,25 +99,26 @@ pub one-value-requires : goal.one-value-requires
 one-value-requires t c = let s = c.args.text.now in
     (omega (arith, c.less.ensures, c.decreases), item_ready s c.args.old.now c.args.depth c.args.w c.args.out.now c.requires c.comments-d.result c.comments-d.new.out c.comments-d.ensures.walk c.comments-d.ensures.stored)
 
-pub one-returns-in-Err-clause-walk : goal.one-returns-in-Err-clause-walk
-one-returns-in-Err-clause-walk t c = let s = c.args.text.now in
-    (one_no s c.args.old.now c.args.depth c.args.w c.args.out.now c.requires c.comments-d.result c.comments-d.new.out c.comments-d.ensures.walk c.comments-d.ensures.stored c.less.result c.less.ensures c.value.result c.value.ensures.walk _ c.in-Err.is c.value.new.out).walk
+pub one-returns-in_err-v-clause-walk : goal.one-returns-in_err-v-clause-walk
+one-returns-in_err-v-clause-walk t c = let s = c.args.text.now in
+    let e : c.from_residual.result ≡ Err c.in_err-v.field-0.0 = search rules in
+    e ∙ (one_no s c.args.old.now c.args.depth c.args.w c.args.out.now c.requires c.comments-d.result c.comments-d.new.out c.comments-d.ensures.walk c.comments-d.ensures.stored c.less.result c.less.ensures c.value.result c.value.ensures.walk _ c.in_err-v.was c.value.new.out).walk
 
-pub one-returns-in-Err-clause-stored : goal.one-returns-in-Err-clause-stored
-one-returns-in-Err-clause-stored t c = let s = c.args.text.now in
-    (one_no s c.args.old.now c.args.depth c.args.w c.args.out.now c.requires c.comments-d.result c.comments-d.new.out c.comments-d.ensures.walk c.comments-d.ensures.stored c.less.result c.less.ensures c.value.result c.value.ensures.walk _ c.in-Err.is c.value.new.out).stored
+pub one-returns-in_err-v-clause-stored : goal.one-returns-in_err-v-clause-stored
+one-returns-in_err-v-clause-stored t c = let s = c.args.text.now in
+    (one_no s c.args.old.now c.args.depth c.args.w c.args.out.now c.requires c.comments-d.result c.comments-d.new.out c.comments-d.ensures.walk c.comments-d.ensures.stored c.less.result c.less.ensures c.value.result c.value.ensures.walk _ c.in_err-v.was c.value.new.out).stored
 
 pub one-settle-requires : goal.one-settle-requires
 one-settle-requires t c = let s = c.args.text.now in
-    got_ready s c.args.old.now c.args.depth c.args.w c.args.out.now c.requires c.comments-d.result c.comments-d.new.out c.comments-d.ensures.walk c.comments-d.ensures.stored c.less.result c.less.ensures c.value.result c.value.ensures.walk c.in-Ok.v c.in-Ok.is c.value.new.out c.value.ensures.stored
+    got_ready s c.args.old.now c.args.depth c.args.w c.args.out.now c.requires c.comments-d.result c.comments-d.new.out c.comments-d.ensures.walk c.comments-d.ensures.stored c.less.result c.less.ensures c.value.result c.value.ensures.walk c.in_ok-v.v c.in_ok-v.was c.value.new.out c.value.ensures.stored
 
-pub one-returns-in-Ok-clause-walk : goal.one-returns-in-Ok-clause-walk
-one-returns-in-Ok-clause-walk t c = let s = c.args.text.now in
-    (one_yes s c.args.old.now c.args.depth c.args.w c.args.out.now c.requires c.comments-d.result c.comments-d.new.out c.comments-d.ensures.walk c.comments-d.ensures.stored c.less.result c.less.ensures c.value.result c.value.ensures.walk c.in-Ok.v c.in-Ok.is c.value.new.out c.value.ensures.stored c.settle.result c.settle.new.out c.settle.ensures.walk c.settle.ensures.stored).walk
+pub one-returns-clause-walk : goal.one-returns-clause-walk
+one-returns-clause-walk t c = let s = c.args.text.now in
+    (one_yes s c.args.old.now c.args.depth c.args.w c.args.out.now c.requires c.comments-d.result c.comments-d.new.out c.comments-d.ensures.walk c.comments-d.ensures.stored c.less.result c.less.ensures c.value.result c.value.ensures.walk c.in_ok-v.v c.in_ok-v.was c.value.new.out c.value.ensures.stored c.settle.result c.settle.new.out c.settle.ensures.walk c.settle.ensures.stored).walk
 
-pub one-returns-in-Ok-clause-stored : goal.one-returns-in-Ok-clause-stored
-one-returns-in-Ok-clause-stored t c = let s = c.args.text.now in
-    (one_yes s c.args.old.now c.args.depth c.args.w c.args.out.now c.requires c.comments-d.result c.comments-d.new.out c.comments-d.ensures.walk c.comments-d.ensures.stored c.less.result c.less.ensures c.value.result c.value.ensures.walk c.in-Ok.v c.in-Ok.is c.value.new.out c.value.ensures.stored c.settle.result c.settle.new.out c.settle.ensures.walk c.settle.ensures.stored).stored
+pub one-returns-clause-stored : goal.one-returns-clause-stored
+one-returns-clause-stored t c = let s = c.args.text.now in
+    (one_yes s c.args.old.now c.args.depth c.args.w c.args.out.now c.requires c.comments-d.result c.comments-d.new.out c.comments-d.ensures.walk c.comments-d.ensures.stored c.less.result c.less.ensures c.value.result c.value.ensures.walk c.in_ok-v.v c.in_ok-v.was c.value.new.out c.value.ensures.stored c.settle.result c.settle.new.out c.settle.ensures.walk c.settle.ensures.stored).stored
 
 pub two-value-requires : goal.two-value-requires
 two-value-requires t c = let s = c.args.text.now in
