@@ -26,6 +26,7 @@ fn refused_words(r: Refusal) -> [u64; 8]
     ]
 }
 
+// The words that an answer does not use are 0, and a slice is a number, as include/eon.h promises.
 fn done_words(count: u64, slice: u64, start: u64) -> [u64; 8]
     ensures { result ≡ done_words count slice start }
 {

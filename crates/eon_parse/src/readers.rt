@@ -1,6 +1,11 @@
 // The readers, one cycle: each compares the records that it reads with an old table, and stores them in another. Either may be empty.
 // A level of nesting is `value` and `core`: what else a level calls goes into `core`, whose frame then holds no walk or record twice, so
 // that deep texts need little stack.
+//
+// What each asks, `Ready`, is a relation of the text, the cursor and the count, and no invariant of `Walk`: the definitions say which walk
+// a reader leaves, as a record of its fields, and only then is that walk known to be ready.
+//
+// The loops are `while`s: a turn ends where the reader of an item leaves off, which only it knows.
 ghost use Rattle.std.specs.Prelude.{◌≡◌, ◌-◌, length, IsSome};
 ghost use Rattle.eon_spec.specs.Token.{kind_number};
 ghost use Rattle.eon_token.specs.Placed.{code_of};

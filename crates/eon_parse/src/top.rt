@@ -22,7 +22,7 @@ pub enum Form {
     Several,
 }
 
-// A text that is read whole: how, its records' number, and whether the old table begins with them.
+// A text that is read whole: how, its records' number, and whether the old table begins with them, which is a fact of its own.
 #[derive(Clone, Copy)]
 pub struct Top {
     pub form: Form,
@@ -56,7 +56,8 @@ pub fn whole(text: &[u8], old: &[u32], out: &mut [u32], w: Walk) -> Result<Top, 
     }
 }
 
-// The text as the inside of a map.
+// The text as the inside of a map. `as_list` differs in the reader and the kind; one function that takes the reader would say of it, as a
+// closure, all that the contracts of `map` and `list` say.
 pub fn as_map(text: &[u8], old: &[u32], out: &mut [u32], w: Walk) -> Result<Walk, Stop>
     requires { Starts text.now w }
     ensures walk { result ≡ bared text.now old.now w (topped (length text.now) 5 (inside text.now (two text.now (below 128 text.now)) (span 0 0))) }

@@ -13,7 +13,7 @@ use eon_spec::{RECORD_WORDS, Reason, RecordKind, Refusal, TokenKind};
 use eon_token::cursor::Cursor;
 use eon_token::token_kind::PlacedToken;
 
-// A cursor, the number of records so far, and whether the old table has agreed.
+// A cursor, the number of records so far, and whether the old table has agreed: a fact beside them, whatever they are.
 #[derive(Clone, Copy)]
 pub struct Walk {
     pub cursor: Cursor,

@@ -1,4 +1,5 @@
-// The words of a table. A store past its end is none.
+// The words of a table. A store past its end is none. Where a record's words stand, `i`, is bounded so that the next ones' places are
+// too; a type of such a place would be made anew from each record's number.
 ghost use Rattle.std.specs.Prelude.{◌≡◌, ◌<◌, set};
 ghost use Rattle.std.proofs.lemmas.List.Edits.{sets};
 ghost use Rattle.eon_spec.specs.RecordKind.{word_of};
@@ -17,7 +18,7 @@ pub struct Record {
 }
 
 impl Record {
-    // Is it the table's record at i?
+    // Is it the table's record at i? One test after the other: joined by `&&` the check lost which of them had held.
     #[tactic(auto, using(crate::proofs::Laws::agrees_5))]
     pub fn is_in(self, table: &[u32], i: usize) -> bool
         requires { i < 1000000 }

@@ -53,7 +53,7 @@ pub const PATHS_MAX: usize = 128;
 
 pub const KEYS_MAX: usize = 8;
 
-// The answer of a path that reaches nothing: no record has this number.
+// The answer of a path that reaches nothing: no record has this number. No Option, since C reads the answers.
 pub const NONE: u32 = 4294967295;
 
 // A lookup answers how many steps it took, and beside that for each path the number of a record, or NONE.
@@ -81,7 +81,8 @@ pub struct Part {
 // The most bytes that a setting may have.
 pub const SETTING_MAX: usize = 16;
 
-// A setting's text is the first `len` of its bytes.
+// A setting's text is the first `len` of its bytes, in fixed memory: there is no heap. Callers may give any length, so that one over the limit
+// is refused by layout and not by the type.
 #[derive(Clone, Copy)]
 pub struct Setting {
     pub bytes: [u8; SETTING_MAX],

@@ -82,7 +82,7 @@ impl Reason {
         }
     }
 
-    // The number of the token kind that was expected, 0 if none is named.
+    // The number of the token kind that was expected; 0, as in the papers and C's words, if none is named.
     pub fn expected(self) -> u32
         ensures { result ≡ expected_of self }
     {
@@ -93,7 +93,7 @@ impl Reason {
         }
     }
 
-    // The number of the token kind that was found, 0 if none is named.
+    // The number of the token kind that was found; 0, as above, if none is named.
     pub fn found(self) -> u32
         ensures { result ≡ found_of self }
     {

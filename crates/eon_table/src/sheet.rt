@@ -27,7 +27,8 @@ pub struct Sheet<'a> {
 impl<'a> Sheet<'a> {
     // ---- a record
 
-    // Word k of record i, and 0 past the end.
+    // Word k of record i, and 0 past the end. C's words are u32; they are answered as places and numbers of records, so each of the functions
+    // here says that it is below 2 ^ 32.
     fn word(self, i: usize, k: usize) -> usize
         requires { k < RECORD_WORDS }
         ensures value { result ≡ word self.entry.table.now i k }
@@ -107,7 +108,8 @@ impl<'a> Sheet<'a> {
 
     // ---- the steps of a walk
 
-    // The first record from i on that is no prefix comment: the record of the value of a tree at i.
+    // The first record from i on that is no prefix comment: the record of the value of a tree at i. A `for` over numbers: a record is five words
+    // of the table, so there is no slice of records.
     pub fn after_prefix(self, i: usize) -> usize
         ensures { AfterPrefix self.entry.table.now i result }
     {

@@ -30,9 +30,9 @@ pub word_is : (b : ℕ) → b < 256 → in_classes 2 3 b ≡ (cond (leb 97 b) (l
 unfolding alike eq? class classes
 word_is = same (in_classes 2 3) (λ b. cond (leb 97 b) (leb b 122) (in_classes 2 2 b || is_ascii_digit b)) tt
 
-pub number_is : (b : ℕ) → b < 256 → in_classes 2 4 b ≡ (in_classes 2 3 b || (nat_eq b 46 || (nat_eq b 45 || nat_eq b 43)))
+pub number_is : (b : ℕ) → b < 256 → in_classes 2 4 b ≡ cond (is_ascii_digit b) true (in_classes 2 3 b || (nat_eq b 46 || (nat_eq b 45 || nat_eq b 43)))
 unfolding alike eq? class classes
-number_is = same (in_classes 2 4) (λ b. in_classes 2 3 b || (nat_eq b 46 || (nat_eq b 45 || nat_eq b 43))) tt
+number_is = same (in_classes 2 4) (λ b. cond (is_ascii_digit b) true (in_classes 2 3 b || (nat_eq b 46 || (nat_eq b 45 || nat_eq b 43)))) tt
 
 pub further_is : (b : ℕ) → b < 256 → in_classes 5 5 b ≡ (leb 128 b && ltb b 192)
 unfolding alike eq? class classes

@@ -43,7 +43,7 @@ impl Quote {
         }
     }
 
-    // The kind of a string between one mark on each side.
+    // The kind of a string between one mark on each side. This and the next are two columns of a table; a flag would choose between them.
     fn plain(self) -> TokenKind
         ensures { result ≡ kind_of (plain_k (class_of self)) }
     {
@@ -254,7 +254,8 @@ fn stands(text: &[u8], i: usize, b: u8) -> bool
     i < text.len() && text[i] == b
 }
 
-// The end of the bytes from `from` on of which `inside` holds.
+// The end of the bytes from `from` on of which `inside` holds. The `for` goes over places, since the end is one: in a slice of the rest they
+// would be counted from anew.
 fn end_while<F: Fn(u8) -> bool>(text: &[u8], from: usize, inside: F) -> usize
     requires within { from ≤ length text.now }
     requires callable { F.IsAlwaysCallable inside }
@@ -294,11 +295,14 @@ fn is_word(b: u8) -> bool
     is_letter(b) || b.is_ascii_digit()
 }
 
-// A byte of a number.
+// A byte of a number. Most are digits, and are told first.
 #[tactic(auto, using(crate::proofs::Bytes::number_is))]
 fn is_number(b: u8) -> bool
     ensures { result ≡ in_classes 2 4 b }
 {
+    if b.is_ascii_digit() {
+        return true;
+    }
     is_word(b) || b == b'.' || b == b'-' || b == b'+'
 }
 

@@ -23,7 +23,7 @@ pub struct Next<'a> {
     pub rest: &'a [u8],
 }
 
-// The first character that is no carriage return.
+// The first character that is no carriage return. A turn takes a character of one to four bytes: no iterator over bytes hands those out.
 pub fn next_kept(text: &[u8]) -> Option<Next<'_>>
     ensures { NextIs text.now result }
 {
