@@ -1,7 +1,8 @@
 -- The answer of a layout: what was measured decides it.
 use Rattle.std.proofs.Common.{◌≡◌, ℕ, ◌-◌, ◌≤◌, Bool, true, false, cond, leb, List, ◌++◌, length, drop, Option, Some, None, refl, sym, ap, ◌∙◌, zero-add, arith}
+use Rattle.std.proofs.lemmas.List.Edits.{sets, sets-eq}
 use Rattle.eon_laws.proofs.Facts.{le_of}
-use Rattle.eon_put.specs.Put.{left_after, overwritten}
+use Rattle.eon_put.specs.Put.{left_after}
 use Rattle.eon_spec.specs.Tree.{TokenTree}
 use Rattle.eon_spec.specs.declared.FormatOptions.{FormatOptions}
 use Rattle.eon_spec.specs.Layout.{settings_of, format}
@@ -24,15 +25,15 @@ module _ (l b : List ℕ) where
           (h, omega arith)
       go false e f = some_none left (sym f)
 
-  pub filled : (left : ℕ) → left_after (Some (length l)) (length b) ≡ Some left → (l' : List ℕ) → l' ≡ overwritten l 0 b → after (done (length l - left)) l' ≡ fill {A = ℕ} l (done (length b, b))
+  pub filled : (left : ℕ) → left_after (Some (length l)) (length b) ≡ Some left → (l' : List ℕ) → l' ≡ sets l 0 b → after (done (length l - left)) l' ≡ fill {A = ℕ} l (done (length b, b))
   unfolding fill
   filled left = go (leb (length b) (length l)) refl
     where
-      go : (t : Bool) → leb (length b) (length l) ≡ t → cond t (Some (length l - length b)) None ≡ Some left → (l' : List ℕ) → l' ≡ overwritten l 0 b → after (done (length l - left)) l' ≡ fill {A = ℕ} l (done (length b, b))
+      go : (t : Bool) → leb (length b) (length l) ≡ t → cond t (Some (length l - length b)) None ≡ Some left → (l' : List ℕ) → l' ≡ sets l 0 b → after (done (length l - left)) l' ≡ fill {A = ℕ} l (done (length b, b))
       go true e f l' q = let h : length b ≤ length l = le_of (length b) (length l) e in
           let k : length l - length b ≡ left = some_same (length l - length b) left f in
           let n : length l - left ≡ length b = omega arith in
-          let z : overwritten l 0 b ≡ b ++ drop (length b) l = ap (λ (k : ℕ). b ++ drop k l) (zero-add (length b)) in
+          let z : sets l 0 b ≡ b ++ drop (length b) l = sets-eq b l 0 (omega arith) ∙ ap (λ (k : ℕ). b ++ drop k l) (zero-add (length b)) in
           ap (λ (k : ℕ). after (done k) l') n ∙ ap (after (done (length b))) (q ∙ z) ∙ rw (e, fill)
       go false e f l' q = some_none left (sym f)
 

@@ -1,7 +1,8 @@
 // Where layout puts its bytes: a lent memory that is written, or one that is only measured.
 #![tactic(auto)]
 
-ghost use Rattle.std.specs.Prelude.{List, [], ◌∷◌, ◌++◌, ℕ};
+ghost use Rattle.std.specs.Prelude.{List, [], ◌∷◌, ◌++◌, ℕ, ◌≤◌, length};
+ghost use Rattle.std.specs.Option.{ForSome};
 ghost use Rattle.eon_spec.specs.Layout.{text_of, settings_of, add_indent};
 
 use eon_spec::{FormatOptions, Setting};
@@ -51,6 +52,7 @@ impl Sink for Measure {
 pub struct Writer<'a> {
     pub out: &'a mut [u8],
     pub at: Option<usize>,
+    ghost inside: { ForSome at (λ a. a ≤ length out.now) },
 }
 
 impl Sink for Writer<'_> {
@@ -64,24 +66,21 @@ impl Sink for Writer<'_> {
     ghost append = { writes_append };
 
     fn put(&mut self, byte: u8) {
-        let at = self.at;
-        self.at = None;
-        if let Some(at) = at {
+        if let Some(at) = self.at.take() {
             if at < self.out.len() {
-                self.out[at] = byte;
                 self.at = Some(at + 1);
+                self.out[at] = byte;
             }
         }
     }
 
+    #[tactic(auto, using(crate::proofs::Room::copied))]
     fn put_all(&mut self, bytes: &[u8]) {
-        let at = self.at;
-        self.at = None;
-        if let Some(at) = at {
-            if at <= self.out.len() && bytes.len() <= self.out.len() - at {
-                let end = at + bytes.len();
-                self.out[at..end].copy_from_slice(bytes);
-                self.at = Some(end);
+        if let Some(at) = self.at.take() {
+            let n = bytes.len().min(self.out.len() - at);
+            self.out[at..at + n].copy_from_slice(&bytes[..n]);
+            if n == bytes.len() {
+                self.at = Some(at + n);
             }
         }
     }

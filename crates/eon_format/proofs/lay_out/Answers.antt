@@ -1,9 +1,9 @@
 -- What was measured decides, and what was written is the layout.
-use Rattle.std.proofs.Common.{sym, ap, ◌∙◌, refl, arith, rules}
+use Rattle.std.proofs.Common.{sym, ap, ◌∙◌, rules}
 use Rattle.eon_spec.specs.Layout.{format, settings_of}
 use Rattle.eon_spec.specs.Refused.{refusal_of}
 use Rattle.eon_spec.specs.Calls.{after, refused_with}
-use Rattle.eon_format.proofs.Answered.{fits, filled, full}
+use Rattle.eon_format.proofs.Answered.{filled, full}
 use Rattle.eon_format.proofs.lay_out.Goals as goal
 
 pub returns-in_default : goal.returns-in_default
@@ -13,5 +13,5 @@ returns-in_default c t h = let b = format (settings_of c.args.layout.options.now
 pub returns : goal.returns
 returns c t h = let b = format (settings_of c.args.layout.options.now) t in
     let m = sym (c.format.ensures t h) ∙ c.in-Some.is in
-    let w = (c.write.ensures.written t h).fits 0 refl (omega (arith, (fits c.args.out.now b c.in-Some.left m).0)) in
+    let w = (c.write.ensures.written t h).written in
     filled c.args.out.now b c.in-Some.left m _ (search (rules, w))
