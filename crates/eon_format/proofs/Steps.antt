@@ -2,7 +2,7 @@
 use mathlib.Core.Path.{◌≡◌, refl, sym, ap, ◌∙◌}
 use mathlib.Core.Bool.{Bool, true, false, ◌&&◌, cond}
 use mathlib.Core.List.{List, [], ◌∷◌, ◌++◌, append_assoc}
-use Prim.Native.Nat.{ℕ, suc, ◌+◌, ◌-◌, ◌≤◌, ◌<◌}
+use Prim.Native.Nat.{ℕ, ◌+◌, ◌-◌, ◌≤◌, ◌<◌}
 use native.Mathlib.Omega.{arith}
 use native.Mathlib.Decide.{dec_le}
 use native.Mathlib.Numerals.{add-one}
@@ -235,10 +235,10 @@ paired_closed s tb end o n j base kvs cl h d puts append {from} {to} {to'} w v =
     (append from to to' (map_content o n true kvs) _ w v)
 
 pub map_law : (o : Settings) (n : ℕ) (kvs : KeyValues) (cl : List Slice) →
-    (123 ∷ []) ++ o.newline ++ (map_content o (n + 1) true kvs ++ closing o (n + 1) (no_key_values kvs) cl) ++ add_indent o n ++ (125 ∷ []) ≡ long_map o n kvs cl
+    (123 ∷ []) ++ o.newline ++ (map_content o (n + 1) true kvs ++ closing o (n + 1) (no_key_values kvs) cl) ++ (add_indent o n ++ (125 ∷ [])) ≡ long_map o n kvs cl
 map_law o n kvs cl =
-    ap (λ (m : ℕ). (123 ∷ []) ++ o.newline ++ (map_content o m true kvs ++ closing o m (no_key_values kvs) cl) ++ add_indent o n ++ (125 ∷ [])) (add-one n)
-    ∙ ap (λ (x : List ℕ). x ++ add_indent o n ++ (125 ∷ [])) (sym (append_assoc ((123 ∷ []) ++ o.newline) (map_content o (suc n) true kvs) (closing o (suc n) (no_key_values kvs) cl)))
+    ap (λ (m : ℕ). (123 ∷ []) ++ o.newline ++ (map_content o m true kvs ++ closing o m (no_key_values kvs) cl) ++ (add_indent o n ++ (125 ∷ []))) (add-one n)
+    ∙ simp append_assoc
 
 -- ---- numbers
 

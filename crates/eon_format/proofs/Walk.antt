@@ -114,20 +114,21 @@ module _ (s tb : List ℕ) (end : ℕ) where
       ne_eqb j base (λ z. omega arith)
 
   -- the closing comments, the indentation and the bracket after the items
-  pub finish : {A : Type 0} (puts : A → List ℕ → A → Type 0) (append : Appends puts) {from to to' : A} {x : List ℕ} (o : Settings) (n j b : ℕ) (empty e : Bool) (cl : List Slice) →
+  pub finish : {A : Type 0} (puts : A → List ℕ → A → Type 0) (append : Appends puts) {from to on to' : A} {x : List ℕ} (o : Settings) (n j b : ℕ) (empty e : Bool) (cl : List Slice) →
       CommentsAt s tb 9 j cl → end ≡ j + length cl → empty ≡ e → puts from x to →
-      puts to (closing_lines s tb o (n + 1) empty j (end - j) ++ add_indent o n ++ (b ∷ [])) to' →
+      puts to (closing_lines s tb o (n + 1) empty j (end - j)) on →
+      puts on (add_indent o n ++ (b ∷ [])) to' →
       puts from (x ++ closing o (suc n) e cl ++ add_indent o n ++ (b ∷ [])) to'
-  finish puts append {from} {to} {to'} {x} o n j b empty e cl h q f w v =
+  finish puts append {from} {to} {on} {to'} {x} o n j b empty e cl h q f w v u =
       let d : end - j ≡ length cl = omega arith in
       put_as puts
-      (ap (λ (l : List ℕ). x ++ (l ++ add_indent o n ++ (b ∷ [])))
+      (ap (λ (l : List ℕ). x ++ (l ++ (add_indent o n ++ (b ∷ []))))
       (ap (closing_lines s tb o (n + 1) empty j) d
       ∙ closing_comments s tb o (n + 1) j empty cl h
       ∙ ap (λ (m : ℕ). closing o m empty cl) (add-one n)
       ∙ ap (λ (m : Bool). closing o (suc n) m cl) f)
       ∙ simp append_assoc)
-      (append from to to' x _ w v)
+      (append from to to' x _ w (append to on to' _ _ v u))
 
 -- ---- a variant's sole list or map
 

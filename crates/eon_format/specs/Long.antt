@@ -5,7 +5,7 @@ use Rattle.eon_spec.specs.Tree.{Slice, TokenTree, TokenValue, TokenTrees, KeyVal
 use Rattle.eon_spec.specs.Layout.{Settings, add_indent, no_values, no_key_values, on_lines, line_ends, list_content, map_content, indented_comments, suffix_comment, prefix_of, suffix_of, bare_value, shared, shared_first, is_empty, is_container, is_sole_container}
 use Rattle.eon_spec.specs.RecordKind.{LIST}
 use Rattle.eon_table.specs.Words.{word}
-use Rattle.eon_table.specs.TreeAt.{ValueAt}
+use Rattle.eon_table.specs.TreeAt.{ValueAt, PairedAt}
 
 abbrev pub long_list : Settings → ℕ → TokenTrees → List Slice → List ℕ
 long_list o n vs cl = on_lines o n (codes "[") (list_content o (suc n) true vs) (no_values vs) cl (codes "]")
@@ -42,3 +42,6 @@ module _ (s tb : List ℕ) where
 
   abbrev pub SomeContainer : ℕ → Type 0
   SomeContainer i = (v : TokenValue) × ValueAt s tb i v × (is_container v ≡ true)
+
+  abbrev pub SomePaired : ℕ → ℕ → Type 0
+  SomePaired end i = (kvs : KeyValues) × (cl : List Slice) × PairedAt s tb end i kvs cl

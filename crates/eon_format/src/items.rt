@@ -1,5 +1,5 @@
 // What stands between the values of a layout: lines of comments, line ends, brackets.
-ghost use Rattle.std.specs.Prelude.{◌≡◌, List, [], ◌∷◌, ◌++◌, ℕ, ◌+◌, ◌-◌, ◌<◌, ◌≤◌, length, Option};
+ghost use Rattle.std.specs.Prelude.{◌≡◌, List, [], ◌∷◌, ◌++◌, ℕ, ◌+◌, ◌-◌, ◌<◌, ◌≤◌, length, Option, eqb};
 ghost use Rattle.eon_spec.specs.Tree.{Slice, TokenTrees};
 ghost use Rattle.eon_spec.specs.Layout.{Settings, add_indent, suffix_comment, text_of, settings_of};
 ghost use Rattle.eon_format.specs.Lines.{gap_at, lines, closing_lines};
@@ -7,6 +7,7 @@ ghost use Rattle.eon_format.specs.Long.{long_variant, blank_at, SoleAt};
 ghost use Rattle.eon_table.specs.Words.{word};
 ghost use Rattle.eon_table.specs.TreeAt.{SomeInside, InsideAt, SuffixAt};
 
+use crate::node::Node;
 use eon_put::{Sink, add_indent, newline};
 use eon_spec::{FormatOptions, RecordKind};
 use eon_table::Sheet;
@@ -47,24 +48,24 @@ impl<'a> Layout<'a> {
         }
     }
 
-    // The closing comments from i up to `end`, after a line end if there are items.
-    pub fn closing<S: Sink>(self, empty: bool, i: usize, end: usize, n: usize, sink: &mut S)
-        ensures { S.puts sink.old (closing_lines self.entry.sheet.text.now self.entry.sheet.table.now (settings_of self.entry.options.now) n empty i (end - i)) sink.new }
+    // The closing comments from i up to `end`, after a line end if items stand before them, from record `base` on.
+    pub fn closing<S: Sink>(self, base: usize, i: usize, end: usize, n: usize, sink: &mut S)
+        ensures { S.puts sink.old (closing_lines self.entry.sheet.text.now self.entry.sheet.table.now (settings_of self.entry.options.now) n (eqb i base) i (end - i)) sink.new }
     {
         if end <= i {
             return;
         }
-        if !empty {
+        if i != base {
             newline(self.options, sink);
         }
         self.indented_comments(i, end, n, sink);
     }
 
-    // A line end before a later item with prefix comments.
-    pub fn gap<S: Sink>(self, first: bool, i: usize, sink: &mut S)
-        ensures { S.puts sink.old (gap_at (settings_of self.entry.options.now) self.entry.sheet.table.now first i) sink.new }
+    // A line end before an item with prefix comments that is not the first: that one stands at record `base`.
+    pub fn gap<S: Sink>(self, base: usize, i: usize, sink: &mut S)
+        ensures { S.puts sink.old (gap_at (settings_of self.entry.options.now) self.entry.sheet.table.now (eqb i base) i) sink.new }
     {
-        if !first && self.sheet.is(i, RecordKind::PrefixComment) {
+        if i != base && self.sheet.is(i, RecordKind::PrefixComment) {
             newline(self.options, sink);
         }
     }
@@ -77,41 +78,31 @@ impl<'a> Layout<'a> {
         newline(self.options, sink);
     }
 
-    // The closing comments, the indentation and the bracket.
-    pub fn close_lines<S: Sink>(
-        self,
-        empty: bool,
-        i: usize,
-        end: usize,
-        n: usize,
-        bracket: u8,
-        sink: &mut S,
-    )
-        requires { n < length self.sheet.table.now }
-        ensures { S.puts sink.old (closing_lines self.entry.sheet.text.now self.entry.sheet.table.now (settings_of self.entry.options.now) (n + 1) empty i (end - i) ++ add_indent (settings_of self.entry.options.now) n ++ (bracket ∷ [])) sink.new }
+    // The indentation and the bracket.
+    pub fn close_lines<S: Sink>(self, n: usize, bracket: u8, sink: &mut S)
+        ensures { S.puts sink.old (add_indent (settings_of self.entry.options.now) n ++ (bracket ∷ [])) sink.new }
     {
-        self.closing(empty, i, end, n + 1, sink);
         add_indent(self.options, n, sink);
         sink.put(bracket);
     }
 
     // Any other long variant: line ends for its values.
-    pub fn long_variant<S: Sink>(self, i: usize, n: usize, sink: &mut S)
-        requires depth { n ≤ i }
-        requires there { i < length self.sheet.table.now }
-        requires inside { SomeInside self.sheet.text.now self.sheet.table.now (i + word self.sheet.table.now i 4) (i + 1) }
-        ensures { (vs : TokenTrees) (cl : List Slice) → InsideAt self.entry.sheet.text.now self.entry.sheet.table.now (i + word self.entry.sheet.table.now i 4) (i + 1) vs cl → S.puts sink.old (long_variant (settings_of self.entry.options.now) n vs cl) sink.new }
+    pub fn long_variant<S: Sink>(self, node: Node, sink: &mut S)
+        requires there { node.index < length self.sheet.table.now }
+        requires inside { SomeInside self.sheet.text.now self.sheet.table.now (node.index + word self.sheet.table.now node.index 4) (node.index + 1) }
+        ensures { (vs : TokenTrees) (cl : List Slice) → InsideAt self.entry.sheet.text.now self.entry.sheet.table.now (node.index + word self.entry.sheet.table.now node.index 4) (node.index + 1) vs cl → S.puts sink.old (long_variant (settings_of self.entry.options.now) node.depth vs cl) sink.new }
     {
-        let end = self.sheet.behind(i);
-        let base = i + 1;
-        let mut j = base;
+        let end = self.sheet.behind(node.index);
+        let base = node.index + 1;
+        let mut index = base;
         self.open_lines(b'(', sink);
-        while self.sheet.more(j, end) {
-            self.gap(j == base, j, sink);
+        while self.sheet.more(index, end) {
+            self.gap(base, index, sink);
             newline(self.options, sink);
-            j = self.sheet.next_tree(j, end);
+            index = self.sheet.next_tree(index, end);
         }
-        self.close_lines(j == base, j, end, n, b')', sink);
+        self.closing(base, index, end, node.depth + 1, sink);
+        self.close_lines(node.depth, b')', sink);
     }
 }
 

@@ -11,6 +11,7 @@ ghost use Rattle.eon_table.specs.TreeAt.{TreeAt, SomeTree};
 
 mod items;
 mod layout;
+mod node;
 
 use crate::items::Layout;
 use eon_put::{Measure, Writer};

@@ -2,7 +2,7 @@
 use Rattle.std.proofs.Common.{ℕ, sym, subst, rules}
 use Rattle.eon_spec.specs.Layout.{settings_of, suffix_of}
 use Rattle.eon_put.proofs.Going.{put_as}
-use Rattle.eon_format.proofs.Walk.{tree_lines}
+use Rattle.eon_format.proofs.Walk.{tree_lines, map_to}
 use Rattle.eon_format.proofs.Steps.{value_map}
 use Rattle.eon_format.proofs.Root.{format_braces, format_other, format_map}
 use Rattle.eon_table.specs.TreeAt.{SuffixAt, value_of}
@@ -20,16 +20,17 @@ returns-then-self g c t h = let a = c.args in
       | then-self-via-else-self+then-not-is w ↦ put_as g.S.Sink.puts (format_other s tb a.end c.after_prefix-root.result o t h c.after_prefix-root.ensures (search rules) w.if-self.false) (c.indented_value.ensures t h)
     ]
 
-pub map_content-requires-clause-map : goal.map_content-requires-clause-map
-map_content-requires-clause-map g c = let a = c.args in
+pub map_content-requires : goal.map_content-requires
+map_content-requires g c = let a = c.args in
     let s = a.self.sheet.text.now in
     let tb = a.self.sheet.table.now in
     let T = c.requires in
     let r = c.after_prefix-root.result in
-    value_map s tb r (value_of T.0) (tree_value s tb a.end 0 r T.0 T.1 c.after_prefix-root.ensures) (search rules)
+    let q = value_map s tb r (value_of T.0) (tree_value s tb a.end 0 r T.0 T.1 c.after_prefix-root.ensures) (search rules) in
+    (q.0, q.1, map_to s tb r c.behind-behind.result c.behind-behind.ensures q.0 q.1 q.2)
 
-pub behind-requires : goal.behind-requires
-behind-requires g c = let a = c.args in
+pub behind-behind-requires : goal.behind-behind-requires
+behind-behind-requires g c = let a = c.args in
     let s = a.self.sheet.text.now in
     let tb = a.self.sheet.table.now in
     let T = c.requires in
@@ -44,5 +45,5 @@ returns g c t h = let a = c.args in
     let r = c.after_prefix-root.result in
     format_map s tb a.end r o g.S.Sink.puts g.met.S.Sink.append t h c.after_prefix-root.ensures (search rules) c.if-self.false
     (put_as g.S.Sink.puts (tree_lines s tb a.end 0 r o 0 t h c.after_prefix-root.ensures) c.indented_comments.ensures)
-    c.map_content.ensures
-    (c.suffix_comment.ensures o (suffix_of t) (subst (λ (x : ℕ). SuffixAt s tb a.end x (suffix_of t)) (sym c.behind.ensures) (tree_suffix s tb a.end 0 r t h c.after_prefix-root.ensures)))
+    (λ kvs cl v. c.map_content.ensures kvs cl (map_to s tb r c.behind-behind.result c.behind-behind.ensures kvs cl v))
+    (c.suffix_comment.ensures o (suffix_of t) (subst (λ (x : ℕ). SuffixAt s tb a.end x (suffix_of t)) (sym c.behind-behind.ensures) (tree_suffix s tb a.end 0 r t h c.after_prefix-root.ensures)))

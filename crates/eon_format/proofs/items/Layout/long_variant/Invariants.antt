@@ -10,7 +10,7 @@ abbrev pub invariant-loop-self : goal.invariant-loop-self
 invariant-loop-self g l = let s = l.self.sheet.text.now in
     let tb = l.self.sheet.table.now in
     let o = settings_of l.self.options.now in
-    (l.base ≤ l.j) × ((vs : TokenTrees) (cl : List Slice) → InsideAt s tb l.end l.base vs cl → Through s tb l.end g.S.Sink.puts l.initial.sink (line_ends o true vs) (line_ends o) cl l.base l.j l.sink)
+    (l.base ≤ l.index) × ((vs : TokenTrees) (cl : List Slice) → InsideAt s tb l.end l.base vs cl → Through s tb l.end g.S.Sink.puts l.initial.sink (line_ends o true vs) (line_ends o) cl l.base l.index l.sink)
 
 abbrev pub decreases-loop-self : goal.decreases-loop-self
-decreases-loop-self g l = l.end - l.j
+decreases-loop-self g l = l.end - l.index
