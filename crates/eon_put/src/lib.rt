@@ -74,13 +74,17 @@ impl Sink for Writer<'_> {
         }
     }
 
-    #[tactic(auto, using(crate::proofs::Room::copied))]
+    #[tactic(auto, using(crate::proofs::Room::all_copied, crate::proofs::Room::part_copied))]
     fn put_all(&mut self, bytes: &[u8]) {
         if let Some(at) = self.at.take() {
-            let n = bytes.len().min(self.out.len() - at);
-            self.out[at..at + n].copy_from_slice(&bytes[..n]);
-            if n == bytes.len() {
-                self.at = Some(at + n);
+            // One copy of the lesser number would take each put five instructions more.
+            let room = self.out.len() - at;
+            if bytes.len() <= room {
+                let end = at + bytes.len();
+                self.out[at..end].copy_from_slice(bytes);
+                self.at = Some(end);
+            } else {
+                self.out[at..].copy_from_slice(&bytes[..room]);
             }
         }
     }
