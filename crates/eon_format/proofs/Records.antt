@@ -1,11 +1,5 @@
-use Rattle.std.specs.Prelude.{Option, None, Some}
 -- Comments by the table's words, and as the definition writes them.
-use mathlib.Core.Path.{◌≡◌, refl, ap, ◌∙◌}
-use mathlib.Core.Bool.{Bool, true, false}
-use mathlib.Core.List.{List, [], ◌∷◌, ◌++◌}
-use Prim.Native.Nat.{ℕ, suc, ◌+◌, ◌-◌, ◌≤◌, ◌<◌}
-use native.Mathlib.Omega.{arith}
-use lib.ListN.{length}
+use Rattle.std.proofs.Common.{Option, None, Some, ◌≡◌, refl, ap, ◌∙◌, Bool, true, false, List, [], ◌∷◌, ◌++◌, ℕ, suc, ◌+◌, ◌-◌, ◌≤◌, ◌<◌, arith, length}
 use Rattle.eon_spec.specs.Tree.{Slice}
 use Rattle.eon_spec.specs.Layout.{Settings, add_indent, suffix_comment, indented_comments, closing}
 use Rattle.eon_laws.proofs.Facts.{clash}

@@ -1,9 +1,5 @@
 -- The root, and the answer.
-use mathlib.Core.Path.{◌≡◌, refl, sym, ap, ◌∙◌}
-use mathlib.Core.Bool.{Bool, true, false}
-use mathlib.Core.List.{List, ◌++◌, append_assoc}
-use Prim.Native.Nat.{ℕ}
-use native.Mathlib.Omega.{arith}
+use Rattle.std.proofs.Common.{◌≡◌, refl, sym, ap, ◌∙◌, Bool, true, false, List, ◌++◌, append_assoc, ℕ, arith}
 use Rattle.eon_spec.specs.Tree.{Slice, TokenTree, KeyValues, tree, identifier, number, quoted_string, list_of, map_of, variant_of}
 use Rattle.eon_spec.specs.Layout.{Settings, no_key_values, prefix_of, suffix_of, closing, indented_value, map_content, indented_comments, suffix_comment, without_braces, format}
 use Rattle.eon_laws.proofs.Facts.{clash}

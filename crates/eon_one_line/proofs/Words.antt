@@ -1,11 +1,5 @@
 -- The one-line rule and what it writes, by the table's words, case by case.
-use mathlib.Core.Path.{◌≡◌, refl, sym, ap, ◌∙◌}
-use mathlib.Core.Bool.{Bool, true, false, not, cond}
-use mathlib.Core.List.{List, [], ◌++◌}
-use Prim.Native.Nat.{ℕ, zero, suc, ◌+◌, ◌-◌, ◌≤◌, ◌<◌}
-use native.Mathlib.Omega.{arith}
-use lib.Dec.{ltb, eqb}
-use borrow.Author.Tests.{lt-ltb, le-ltb, eq-eqb, ne_eqb}
+use Rattle.std.proofs.Common.{◌≡◌, refl, sym, ap, ◌∙◌, Bool, true, false, not, cond, List, [], ◌++◌, ℕ, zero, suc, ◌+◌, ◌-◌, ◌≤◌, ◌<◌, arith, ltb, eqb, lt-ltb, le-ltb, eq-eqb, ne_eqb}
 use Rattle.eon_spec.specs.Base.{elem, codes}
 use Rattle.eon_table.specs.Words.{word, has_suffix, text_at}
 use Rattle.eon_one_line.specs.Flat.{comma_at, simple_at, width_at, line_at, one_line_at, flat_at, plain_at, plain_line}

@@ -1,8 +1,8 @@
 -- What a copy leaves, of all bytes or of those that fit.
 use Rattle.std.proofs.Common.{◌≡◌, sym, ap, ◌∙◌, ℕ, ◌+◌, ◌-◌, ◌≤◌, List, ◌++◌, append_assoc, length, take, drop, take-append-drop, Option, Some, arith}
+use lib.Seq.{length-sets}
 use Rattle.std.proofs.lemmas.List.{drop-drop, length-take}
 use Rattle.std.proofs.lemmas.List.Edits.{sets, sets-eq}
-use lib.Seq.{length-sets}
 use Rattle.std.specs.Option.{ForSome}
 use Rattle.eon_put.specs.Put.{put_from}
 use Rattle.eon_put.specs.Stores.{sets_append, sets_past}
