@@ -86,7 +86,7 @@ impl<'a> Layout<'a> {
         sink.put(bracket);
     }
 
-    // Any other long variant: line ends for its values.
+    // Any other long variant: line ends for its values, which it leaves out. In one with `list` a flag would have to say so.
     pub fn long_variant<S: Sink>(self, node: Node, sink: &mut S)
         requires there { node.index < length self.sheet.table.now }
         requires inside { SomeInside self.sheet.text.now self.sheet.table.now (node.index + word self.sheet.table.now node.index 4) (node.index + 1) }

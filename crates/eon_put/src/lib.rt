@@ -74,18 +74,13 @@ impl Sink for Writer<'_> {
         }
     }
 
-    #[tactic(auto, using(crate::proofs::Room::all_copied, crate::proofs::Room::part_copied))]
+    #[tactic(auto, using(crate::proofs::Room::copied))]
     fn put_all(&mut self, bytes: &[u8]) {
-        if let Some(at) = self.at.take() {
-            // One copy of the lesser number would take each put five instructions more.
-            let room = self.out.len() - at;
-            if bytes.len() <= room {
-                let end = at + bytes.len();
-                self.out[at..end].copy_from_slice(bytes);
-                self.at = Some(end);
-            } else {
-                self.out[at..].copy_from_slice(&bytes[..room]);
-            }
+        if let Some(at) = self.at {
+            let n = bytes.len().min(self.out.len() - at);
+            // Before the copy, so that nothing has to be kept over it.
+            self.at = (n == bytes.len()).then_some(at + n);
+            self.out[at..at + n].copy_from_slice(&bytes[..n]);
         }
     }
 }
