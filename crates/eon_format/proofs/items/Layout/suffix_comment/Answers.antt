@@ -1,6 +1,6 @@
 use Rattle.std.proofs.Common.{ℕ, List, [], ◌∷◌, ◌++◌, sym, ap, ◌∙◌}
 use Rattle.eon_put.proofs.Going.{put_as}
-use Rattle.eon_format.proofs.Records.{suffix_some, suffix_none}
+use Rattle.eon_format.proofs.Records.{suffix_some}
 use Rattle.eon_format.proofs.items.Layout.suffix_comment.Goals as goal
 
 pub returns-then-has_suffix : goal.returns-then-has_suffix
@@ -9,8 +9,3 @@ returns-then-has_suffix g c o x h = let s = c.args.self.sheet.text.now in
     put_as g.S.Sink.puts
     (ap (λ (b : List ℕ). (32 ∷ []) ++ b) c.text_at.ensures ∙ suffix_some s tb o c.args.end c.args.i x h (sym c.has_suffix.ensures ∙ c.if-has_suffix.true))
     (g.met.S.Sink.append _ _ _ _ _ c.put.ensures c.put_all.ensures)
-
-pub returns-else-has_suffix : goal.returns-else-has_suffix
-returns-else-has_suffix g c o x h = let s = c.args.self.sheet.text.now in
-    let tb = c.args.self.sheet.table.now in
-    put_as g.S.Sink.puts (suffix_none s tb o c.args.end c.args.i x h (sym c.has_suffix.ensures ∙ c.if-has_suffix.false)) (g.met.S.Sink.nothing _)
