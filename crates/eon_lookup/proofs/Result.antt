@@ -119,7 +119,7 @@ module _ (q : List ℕ) (paths : List Keys) (t : TokenTree) (n : ℕ) (few : n �
           behind (no d) = omega arith
 
   -- the walk's answers are some of the values reached
-  pub found_is : (answers : List ℕ) (r : ℕ) → Looks q paths (below n) t (replicate paths_max none_word) answers r → IsLookup (done (looked t ps)) (record { answer = Ok r; answers = answers })
+  pub found_is : (answers : List ℕ) (r : ℕ) → Looks q paths 0 (below n) t (replicate paths_max none_word) answers r → IsLookup (done (looked t ps)) (record { answer = Ok r; answers = answers })
   unfolding looked
   found_is answers r h = record { counts = ap done h.steps; finds = each_some all answers (many ∙ sym h.size) each }
     where

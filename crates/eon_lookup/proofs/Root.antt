@@ -18,32 +18,32 @@ among_same live f g h p = go (elem p live) refl
     go true e = h p e
     go false e = refl
 
-module _ (q : List ℕ) (paths : List Keys) (live : List ℕ) (g : Going paths 0 live) (t : TokenTree) where
+module _ (q : List ℕ) (paths : List Keys) (d : ℕ) (live : List ℕ) (g : Going paths d live) (t : TokenTree) where
   abbrev rest : ℕ → Path
-  rest = rest_at q paths 0
+  rest = rest_at q paths d
 
   abbrev ps : List Path
-  ps = rests q paths 0 live
+  ps = rests q paths d live
 
   root_first : (w : ℕ) → w ≡ 0 + length (prefix_of t) → (p : ℕ) → elem p live ≡ true → inside_first w (value_of t) (rest p) ≡ first_some (reached 0 t (rest p))
   root_first w e p h =
-      let s = rest_step q paths 0 p (g p h).more in
+      let s = rest_step q paths d p (g p h).more in
       ap (inside_first w (value_of t)) s
-      ∙ sym (first_on w (value_of t) (key_at q paths p 0) (rest_at q paths (0 + 1) p))
+      ∙ sym (first_on w (value_of t) (key_at q paths p d) (rest_at q paths (d + 1) p))
       ∙ ap (λ (r : Path). first_some (reached_at w (value_of t) r)) (sym s)
       ∙ ap first_some (ap (λ (n : ℕ). reached_at n (value_of t) (rest p)) e ∙ sym (reached_tree 0 t (rest p)))
 
   -- no path
-  pub root_none : (old : List ℕ) → length old ≡ 128 → live ≡ [] → Looks q paths live t old old 1
+  pub root_none : (old : List ℕ) → length old ≡ 128 → live ≡ [] → Looks q paths d live t old old 1
   root_none old z e =
       record {
-        steps = sym (steps_tree ps t ∙ ap suc (steps_dead ps (value_of t) (ap (λ (l : List ℕ). some_left (rests q paths 0 l)) e)));
+        steps = sym (steps_tree ps t ∙ ap suc (steps_dead ps (value_of t) (ap (λ (l : List ℕ). some_left (rests q paths d l)) e)));
         size = z;
         gains = gains_nothing (λ p. ap (λ (l : List ℕ). among l (λ p. first_some (reached 0 t (rest p))) p) e);
       }
 
   -- no map
-  pub root_other : (old : List ℕ) → length old ≡ 128 → (kind_of (value_of t) ≡ 5 → ⊥) → Looks q paths live t old old 1
+  pub root_other : (old : List ℕ) → length old ≡ 128 → (kind_of (value_of t) ≡ 5 → ⊥) → Looks q paths d live t old old 1
   root_other old z e =
       record {
         steps = sym (steps_tree ps t ∙ ap suc (steps_other ps (value_of t) e));
@@ -52,10 +52,10 @@ module _ (q : List ℕ) (paths : List Keys) (live : List ℕ) (g : Going paths 0
       }
 
   pub root_map : (w : ℕ) (kvs : KeyValues) (cl : List Slice) (old answers : List ℕ) (r : ℕ) → value_of t ≡ map_of kvs cl → w ≡ 0 + length (prefix_of t) → 0 < length live
-      → Walked q paths 0 live (suc w) kvs old answers r → Looks q paths live t old answers (1 + r)
+      → Walked q paths d live (suc w) kvs old answers r → Looks q paths d live t old answers (1 + r)
   root_map w kvs cl old answers r e f h a =
       let x : r ≡ steps_in ps kvs = a.steps in
-      let y : steps_at ps (value_of t) ≡ steps_in ps kvs = ap (steps_at ps) e ∙ steps_map ps kvs cl (some_rests q paths 0 live g h) in
+      let y : steps_at ps (value_of t) ≡ steps_in ps kvs = ap (steps_at ps) e ∙ steps_map ps kvs cl (some_rests q paths d live g h) in
       let z : steps ps t ≡ suc (steps_at ps (value_of t)) = steps_tree ps t in
       record {
         steps = omega arith;

@@ -1,5 +1,5 @@
 -- On the way through a map's pairs: what is left, what was counted, and what the paths have.
-use Rattle.std.proofs.Common.{Option, None, ◌≡◌, refl, sym, ap, ◌∙◌, true, false, cond, List, ℕ, suc, ◌+◌, ◌≤◌, ◌<◌, arith, length, get_or, length-take-le}
+use Rattle.std.proofs.Common.{Option, None, ◌≡◌, refl, sym, ap, ◌∙◌, subst, true, false, cond, List, ℕ, suc, ◌+◌, ◌≤◌, ◌<◌, arith, length, get_or}
 use Rattle.eon_spec.specs.Base.{elem}
 use Rattle.eon_spec.specs.Tree.{Slice, TokenTree, TokenValue, KeyValues, tree, no_pairs, pair}
 use Rattle.eon_spec.specs.Layout.{prefix_of}
@@ -118,10 +118,10 @@ module _ {s tb : List ℕ} {end : ℕ} {q : List ℕ} {paths : List Keys} {d : �
           let f : 1 ≤ tree_size e.key = tree_pos e.key in
           omega arith
 
-      pub turn : (g : Going paths d live) (answers₁ next : List ℕ) (r : ℕ) → KeyMatched q paths d (key_here s tb k) live w answers answers₁ next r
+      pub turn : (g : Going paths d live) (answers₁ on : List ℕ) → KeyMatched q paths d (key_here s tb k) live w answers answers₁ on
           → (answers₂ : List ℕ) (x : ℕ) → Inner q paths d (key_here s tb k) live g w the_value answers₁ answers₂ x
           → (n' : ℕ) → n' ≡ n + 2 + x → Through s tb end q paths d live kvs cl base old answers₂ j' n'
-      turn g answers₁ next r b answers₂ x i n' ne =
+      turn g answers₁ on b answers₂ x i n' ne =
           let a : w ≡ v + length (prefix_of e.val) = tree_head s tb end v w e.val (e.there v nv).at aw in
           let b₁ : v ≡ j + tree_size e.key = nv s e.key e.here.at in
           let b₂ : j' ≡ v + tree_size e.val = nj s e.val (e.there v nv).at in
@@ -148,10 +148,8 @@ module _ {s tb : List ℕ} {end : ℕ} {q : List ℕ} {paths : List Keys} {d : �
           both : Gains gained answers answers₂
           both = gains_then b.gains i.gains (λ p. refl)
 
--- how many paths go on
-pub matched_length : (q : List ℕ) (paths : List Keys) (d : ℕ) (key : Option (List ℕ)) (live : List ℕ) (w : ℕ) (old answers next : List ℕ) (r : ℕ) → length live ≤ 128 → KeyMatched q paths d key live w old answers next r
-    → length (keep (goes_on q paths d key) live) ≡ r
-matched_length q paths d key live w old answers next r h b =
-    let f : r ≤ length live = b.few in
-    let z : length next ≡ 128 = b.room in
-    sym (ap length b.list) ∙ length-take-le r next (omega arith)
+-- a walk with the paths that go on, which are those of the same text
+pub walked_same : {q q' : List ℕ} {paths paths' : List Keys} {d d' : ℕ} {live live' : List ℕ} {n : ℕ} {kvs : KeyValues} {old answers : List ℕ} {r : ℕ} → q' ≡ q → paths' ≡ paths → d' ≡ d → live' ≡ live
+    → Walked q' paths' d' live' n kvs old answers r → Walked q paths d live n kvs old answers r
+walked_same {q} {q'} {paths} {paths'} {d} {d'} {live} {live'} {n} {kvs} {old} {answers} {r} qe f g h w =
+    subst (λ l. Walked q paths d l n kvs old answers r) h (subst (λ m. Walked q paths m live' n kvs old answers r) g (subst (λ ps. Walked q ps d' live' n kvs old answers r) f (subst (λ x. Walked x paths' d' live' n kvs old answers r) qe w)))

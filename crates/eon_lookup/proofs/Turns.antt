@@ -38,21 +38,19 @@ module _ (q : List ℕ) (paths : List Keys) (d : ℕ) (key : Option Key) (live :
   turns_start next h k =
       record { few = omega arith; inside = omega arith; size = h; room = k; list = refl; gains = gains_nothing (λ p. refl) }
 
-  pub turns_end : (answers next : List ℕ) (n i : ℕ) → Turns answers next n i → length live ≤ i → KeyMatched q paths d key live w old answers next n
+  pub turns_end : (answers next : List ℕ) (n i : ℕ) → Turns answers next n i → length live ≤ i → KeyMatched q paths d key live w old answers (take n next)
   turns_end answers next n i t h =
-      let l : i ≤ length live = t.inside in
-      let m : n ≤ i = t.few in
       let e : take i live ≡ live = take_all i live h in
-      record { few = omega arith; size = t.size; room = t.room; list = t.list ∙ ap (keep on) e; gains = subst (λ (ps : List ℕ). Gains (among ps ends) old answers) e t.gains }
+      record { size = t.size; list = t.list ∙ ap (keep on) e; gains = subst (λ (ps : List ℕ). Gains (among ps ends) old answers) e t.gains }
 
   -- what the test of two texts says
   pub text_says : (b : List ℕ) → key ≡ Some b → (p : ℕ) (z : Bool) → z ≡ eq_list (key_at q paths p d) b → matches q paths d key p ≡ z
   text_says b e p z f = ap (is_key (key_at q paths p d)) e ∙ sym f
 
   -- the event's key is none
-  pub none_matched : (next : List ℕ) → length old ≡ 128 → length next ≡ 128 → key ≡ None → KeyMatched q paths d key live w old old next 0
-  none_matched next h k e =
-      record { few = omega arith; size = h; room = k; list = sym (all live); gains = gains_nothing (λ p. nothing p) }
+  pub none_matched : length old ≡ 128 → key ≡ None → KeyMatched q paths d key live w old old []
+  none_matched h e =
+      record { size = h; list = sym (all live); gains = gains_nothing (λ p. nothing p) }
     where
       off : (p : ℕ) → matches q paths d key p ≡ false
       off p = ap (is_key (key_at q paths p d)) e

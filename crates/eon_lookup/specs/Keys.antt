@@ -1,5 +1,5 @@
 -- The paths as the walk has them: where each key's text stands in the path text.
-use Rattle.std.specs.Prelude.{ℕ, zero, suc, ◌+◌, ◌-◌, ◌≤◌, ◌<◌, ◌≡◌, Bool, true, ◌||◌, cond, List, [], ◌∷◌, ◌++◌, length, get_or, take, eqb, Option, None, Some}
+use Rattle.std.specs.Prelude.{ℕ, zero, suc, ◌+◌, ◌-◌, ◌≤◌, ◌<◌, ◌≡◌, Bool, true, ◌||◌, cond, List, [], ◌∷◌, ◌++◌, length, get_or, eqb, Option, None, Some}
 use Rattle.eon_spec.specs.Base.{elem}
 use Rattle.eon_spec.specs.Tree.{TokenTree, TokenValue}
 use Rattle.eon_spec.specs.Calls.{record_text}
@@ -90,16 +90,16 @@ pub record IsPath (q tq : List ℕ) (i : ℕ) (r : Option Keys) : Type 0 where
   pub is : (v : TokenValue) → ValueAt q tq i v → path_in v ≡ path_by q r
   pub sized : Sized r
 
--- the paths that were read: so many, in a room
-abbrev pub paths_by : List ℕ → List Keys → Option ℕ → Option (List Path)
-paths_by q room None = None
-paths_by q room (Some n) = Some (wholes q (take n room))
+-- the paths that were read
+abbrev pub paths_by : List ℕ → Option (List Keys) → Option (List Path)
+paths_by q None = None
+paths_by q (Some ks) = Some (wholes q ks)
 
-abbrev pub AllGo : List Keys → Option ℕ → Type 0
-AllGo room None = Unit {0}
-AllGo room (Some n) = (n ≤ paths_max) × (length room ≡ paths_max) × Going (take n room) 0 (below n)
+abbrev pub AllGo : Option (List Keys) → Type 0
+AllGo None = Unit {0}
+AllGo (Some ks) = (length ks ≤ paths_max) × Going ks 0 (below (length ks))
 
 -- the path list that a tree is
-pub record IsPaths (q tq : List ℕ) (room : List Keys) (r : Option ℕ) : Type 0 where
-  pub is : (end : ℕ) (u : TokenTree) → TreeAt q tq end 0 u → path_list u ≡ paths_by q room r
-  pub go : AllGo room r
+pub record IsPaths (q tq : List ℕ) (r : Option (List Keys)) : Type 0 where
+  pub is : (end : ℕ) (u : TokenTree) → TreeAt q tq end 0 u → path_list u ≡ paths_by q r
+  pub go : AllGo r

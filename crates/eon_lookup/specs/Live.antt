@@ -1,5 +1,5 @@
 -- The walk's answers: of each path the first value that it reaches.
-use Rattle.std.specs.Prelude.{ℕ, ◌+◌, ◌≤◌, ◌≡◌, Bool, ◌&&◌, not, cond, List, [], ◌∷◌, length, get_or, take, set, ltb, eqb, Option, None, Some}
+use Rattle.std.specs.Prelude.{ℕ, ◌+◌, ◌≡◌, Bool, ◌&&◌, not, cond, List, [], ◌∷◌, length, get_or, set, ltb, eqb, Option, None, Some}
 use Rattle.eon_spec.specs.Base.{elem}
 use Rattle.eon_spec.specs.Tree.{TokenTree, KeyValues}
 use Rattle.eon_spec.specs.Lookup.{paths_max, none_word, Key, Path, is_key, reached_in, steps_in, steps, reached}
@@ -54,12 +54,10 @@ module _ (q : List ℕ) (paths : List Keys) (d : ℕ) (key : Option Key) where
   abbrev pub goes_on : ℕ → Bool
   goes_on p = matches p && ltb (d + 1) (many paths p)
 
-  -- behind a key: the paths that end have record w for their answer, the others are listed in their order
-  pub record KeyMatched (live : List ℕ) (w : ℕ) (old answers next : List ℕ) (r : ℕ) : Type 0 where
-    pub few : r ≤ length live
+  -- behind a key: the paths that end have record w for their answer, and `on` are the others in their order
+  pub record KeyMatched (live : List ℕ) (w : ℕ) (old answers on : List ℕ) : Type 0 where
     pub size : length answers ≡ paths_max
-    pub room : length next ≡ paths_max
-    pub list : take r next ≡ keep goes_on live
+    pub list : on ≡ keep goes_on live
     pub gains : Gains (among live (ends_at w)) old answers
 
 -- what a walk through a map's pairs, the first at record n, gives the paths of a list behind d keys
@@ -68,8 +66,8 @@ pub record Walked (q : List ℕ) (paths : List Keys) (d : ℕ) (live : List ℕ)
   pub size : length answers ≡ paths_max
   pub gains : Gains (among live (λ p. first_in n kvs (rest_at q paths d p))) old answers
 
--- what the walk of a whole tree gives the first r paths
-pub record Looks (q : List ℕ) (paths : List Keys) (live : List ℕ) (t : TokenTree) (old answers : List ℕ) (r : ℕ) : Type 0 where
-  pub steps : r ≡ steps (rests q paths 0 live) t
+-- what the walk of a whole tree gives the paths of a list behind d keys
+pub record Looks (q : List ℕ) (paths : List Keys) (d : ℕ) (live : List ℕ) (t : TokenTree) (old answers : List ℕ) (r : ℕ) : Type 0 where
+  pub steps : r ≡ steps (rests q paths d live) t
   pub size : length answers ≡ paths_max
-  pub gains : Gains (among live (λ p. first_some (reached 0 t (rest_at q paths 0 p)))) old answers
+  pub gains : Gains (among live (λ p. first_some (reached 0 t (rest_at q paths d p)))) old answers

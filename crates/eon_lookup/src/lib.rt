@@ -8,7 +8,7 @@ mod paths;
 mod walks;
 
 use crate::paths::{Keys, read_paths};
-use crate::walks::Walk;
+use crate::walks::Live;
 use eon_parse::finished;
 use eon_spec::{Found, NONE, PATHS_MAX, Reason, Refusal};
 use eon_table::Sheet;
@@ -35,12 +35,14 @@ fn look_up(event: Sheet, list: Sheet, answers: &mut [u32; PATHS_MAX]) -> Result<
 {
     finished(event.text, event.table)?;
     finished(list.text, list.table)?;
-    let mut room = [Keys::new(); PATHS_MAX];
-    let count = read_paths(list, &mut room).ok_or(Refusal::new(Reason::NoPaths, 0))?;
-    let walk = Walk {
-        event,
+    let mut room = [Keys::default(); PATHS_MAX];
+    let paths = read_paths(list, &mut room).ok_or(Refusal::new(Reason::NoPaths, 0))?;
+    let numbers: [usize; PATHS_MAX] = std::array::from_fn(|p| p);
+    let all = Live {
         text: list.text,
-        paths: &room[..count],
+        paths,
+        numbers: &numbers[..paths.len()],
+        matched: 0,
     };
-    Ok(walk.run(answers))
+    Ok(all.run(event, answers))
 }

@@ -1,5 +1,5 @@
 // The form of a path list, a list of at most PATHS_MAX paths, each a list of 1 to KEYS_MAX keys.
-ghost use Rattle.std.specs.Prelude.{◌≡◌, ◌<◌, ℕ, length};
+ghost use Rattle.std.specs.Prelude.{◌≡◌, ◌<◌, ℕ, None, Some, MatchOption};
 ghost use Rattle.eon_table.specs.Words.{word, part};
 ghost use Rattle.eon_table.specs.TreeAt.{SomeTree, SomeValue};
 ghost use Rattle.eon_spec.specs.Lookup.{keys_max};
@@ -9,30 +9,20 @@ use eon_spec::{KEYS_MAX, PATHS_MAX, RecordKind};
 use eon_table::{Sheet, part};
 
 // Where the text of a key stands in the path text.
-#[derive(Clone, Copy)]
+#[derive(Clone, Copy, Default)]
 pub struct Place {
     pub start: usize,
     pub end: usize,
 }
 
 // The keys of a path: the first `len` places, since there is no heap.
-#[derive(Clone, Copy)]
+#[derive(Clone, Copy, Default)]
 pub struct Keys {
     pub places: [Place; KEYS_MAX],
     pub len: usize,
 }
 
 impl Keys {
-    pub fn new() -> Self
-        ensures places { length result.places ≡ keys_max }
-        ensures none { result.len ≡ 0 }
-    {
-        Keys {
-            places: [Place { start: 0, end: 0 }; KEYS_MAX],
-            len: 0,
-        }
-    }
-
     // The bytes of key d.
     pub fn text<'a>(&self, paths: &'a [u8], d: usize) -> &'a [u8]
         requires { d < keys_max }
@@ -50,11 +40,11 @@ pub fn is_key(sheet: Sheet, i: usize) -> bool
     sheet.is(i, RecordKind::Identifier) || sheet.is(i, RecordKind::String)
 }
 
-// How many paths the sheet's tree lists, stored in their order, if it is a list of paths. As in `read_path`, how far a turn goes is said by the
+// The paths that the sheet's tree lists, in their order in the room, if it is a list of paths. As in `read_path`, how far a turn goes is said by the
 // table, so neither loop is a `for`.
-pub fn read_paths(list: Sheet, room: &mut [Keys; PATHS_MAX]) -> Option<usize>
+pub fn read_paths<'a>(list: Sheet, room: &'a mut [Keys; PATHS_MAX]) -> Option<&'a [Keys]>
     requires { (end : ℕ) × SomeTree list.text.now list.table.now end 0 }
-    ensures { IsPaths list.entry.text.now list.entry.table.now room.new result }
+    ensures { MatchOption result (IsPaths list.entry.text.now list.entry.table.now None) (λ paths. IsPaths list.entry.text.now list.entry.table.now (Some paths.now)) }
 {
     let i = list.after_prefix(0);
     if !list.is(i, RecordKind::List) {
@@ -71,7 +61,7 @@ pub fn read_paths(list: Sheet, room: &mut [Keys; PATHS_MAX]) -> Option<usize>
         n += 1;
         j = list.next_tree(j, end);
     }
-    Some(n)
+    Some(&room[..n])
 }
 
 // The path that record i is, if it is one.
@@ -83,7 +73,7 @@ fn read_path(list: Sheet, i: usize) -> Option<Keys>
         return None;
     }
     let end = list.behind(i);
-    let mut path = Keys::new();
+    let mut path = Keys::default();
     let mut j = i + 1;
     while list.more(j, end) {
         let k = list.after_prefix(j);

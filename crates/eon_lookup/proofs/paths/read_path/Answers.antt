@@ -5,7 +5,7 @@ use Rattle.eon_spec.specs.Tree.{TokenValue}
 use Rattle.eon_spec.specs.Lookup.{key_of, keys_of, path_in}
 use Rattle.eon_table.specs.Words.{part}
 use Rattle.eon_table.specs.TreeAt.{SomeTree, ValueAt}
-use Rattle.eon_table.proofs.Walk.{value_kind, more_in, tree_pos}
+use Rattle.eon_table.proofs.Walk.{value_kind, value_in, more_in, tree_pos}
 use Rattle.eon_lookup.specs.declared.paths.Place.{Place}
 use Rattle.eon_lookup.specs.Keys.{whole}
 use Rattle.eon_lookup.proofs.Containers.{TheList, the_list, in_list}
@@ -21,8 +21,8 @@ returns-then-not-is c = let a = c.args in
 
 pub loop-list-init : goal.loop-list-init
 loop-list-init c = let a = c.args in
-    let n = c.new-path.ensures in
-    (omega (arith, n.none), n.places, λ vs cl h. subst (Listed key_of keys_of refl (λ t ts. refl) a.list.text.now a.list.table.now c.behind-end.result vs cl (a.i + 1)) (sym (whole_none a.list.text.now c.new-path.result n.none)) (listed_start key_of keys_of refl (λ t ts. refl) a.list.text.now a.list.table.now c.behind-end.result vs cl (a.i + 1) (in_list a.i c.behind-end.ensures h)))
+    let n = c.default-path.ensures in
+    (omega (arith, n.1), n.0.long, λ vs cl h. subst (Listed key_of keys_of refl (λ t ts. refl) a.list.text.now a.list.table.now c.behind-end.result vs cl (a.i + 1)) (sym (whole_none a.list.text.now c.default-path.result n.1)) (listed_start key_of keys_of refl (λ t ts. refl) a.list.text.now a.list.table.now c.behind-end.result vs cl (a.i + 1) (in_list a.i c.behind-end.ensures h)))
 
 -- the list, in a turn or behind the last
 here : (t : In-loop-list) (v : TokenValue) (h : ValueAt t.args.list.text.now t.args.list.table.now t.args.i v) → TheList t.args.list.text.now t.args.list.table.now t.args.i t.behind-end.result t.behind-end.ensures v h
@@ -117,3 +117,6 @@ returns c =
           let z = behind (goal.at.returns c).After-loop-list v h in
           ap path_in z.0.is ∙ path_done z.0.items z.0.closing l.path.len (whole s l.path) z.1 (whole_length s l.path) some l.invariant.0;
     }
+
+pub overflow_add-j : goal.overflow_add-j
+overflow_add-j c = omega (arith, value_in c.args.list.text.now c.args.list.table.now c.args.i c.requires.0 c.requires.1, c.ranges.list)

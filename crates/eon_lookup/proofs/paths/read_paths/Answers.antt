@@ -1,14 +1,14 @@
-use Rattle.std.proofs.Common.{◌≡◌, refl, sym, ap, ◌∙◌, subst, ℕ, [], ◌∷◌, length, leb, take, length-take-le, length-set, ◌+◌, ◌<◌, arith}
+use Rattle.std.proofs.Common.{None, Some, MatchOption, ◌≤◌, ◌≡◌, refl, sym, ap, ◌∙◌, subst, ℕ, [], ◌∷◌, length, leb, take, length-take-le, length-set, ◌+◌, ◌<◌, arith}
 use Rattle.std.proofs.lemmas.Bool.{false≢true, lt-leb}
 use Rattle.eon_spec.specs.Tree.{TokenTree}
-use Rattle.eon_spec.specs.Lookup.{path_of, paths_of, path_list_in}
+use Rattle.eon_spec.specs.Lookup.{paths_max, path_of, paths_of, path_list_in}
 use Rattle.eon_table.specs.TreeAt.{SomeTree, TreeAt, value_of}
 use Rattle.eon_table.proofs.Walk.{value_kind, more_in, tree_pos, tree_value}
-use Rattle.eon_lookup.specs.Keys.{whole, wholes, IsPaths}
+use Rattle.eon_lookup.specs.Keys.{below, whole, wholes, Going, IsPaths}
 use Rattle.eon_lookup.proofs.Containers.{TheList, the_list, in_list}
 use Rattle.eon_lookup.proofs.Forms.{Listed, listed_start, listed_all, listed_tree, listed_next, listed_bad, listed_long, path_of_lem, list_of_lem, list_other, list_done, list_bad, wholes_append, wholes_length, put_last, going_put}
 use Rattle.eon_lookup.proofs.paths.read_paths.Goals as goal
-use Rattle.eon_lookup.proofs.paths.read_paths.Goals.{In-loop-i, After-loop-i}
+use Rattle.eon_lookup.proofs.paths.read_paths.Goals.{In-loop-room, After-loop-room}
 
 pub returns-then-not-is : goal.returns-then-not-is
 returns-then-not-is c = let a = c.args in
@@ -20,70 +20,70 @@ returns-then-not-is c = let a = c.args in
       go = tt;
     }
 
-pub loop-i-init : goal.loop-i-init
-loop-i-init c = let a = c.args in
+pub loop-room-init : goal.loop-room-init
+loop-room-init c = let a = c.args in
     (omega arith, c.told-room, λ p e. absurd (false≢true e), λ vs cl h. listed_start path_of paths_of refl (λ t ts. refl) a.list.text.now a.list.table.now c.behind-end.result vs cl (c.after_prefix-i.result + 1) (in_list c.after_prefix-i.result c.behind-end.ensures h))
 
 -- the list, of a tree
-here : (t : In-loop-i) (end : ℕ) (u : TokenTree) (h : TreeAt t.args.list.text.now t.args.list.table.now end 0 u)
+here : (t : In-loop-room) (end : ℕ) (u : TokenTree) (h : TreeAt t.args.list.text.now t.args.list.table.now end 0 u)
     → TheList t.args.list.text.now t.args.list.table.now t.after_prefix-i.result t.behind-end.result t.behind-end.ensures (value_of u) (tree_value t.args.list.text.now t.args.list.table.now end 0 t.after_prefix-i.result u h t.after_prefix-i.ensures)
 here t end u h = the_list _ _ _ _ t.behind-end.ensures (value_of u) (tree_value t.args.list.text.now t.args.list.table.now end 0 t.after_prefix-i.result u h t.after_prefix-i.ensures) (t.if-not-is.ensures.0 refl)
 
-tree_here : (t : In-loop-i) → SomeTree t.args.list.text.now t.args.list.table.now t.behind-end.result t.loop-i.j
+tree_here : (t : In-loop-room) → SomeTree t.args.list.text.now t.args.list.table.now t.behind-end.result t.loop-room.j
 tree_here t =
     let z = here t t.requires.0 t.requires.1.0 t.requires.1.1 in
-    listed_tree path_of paths_of refl (λ t ts. refl) _ _ _ _ _ _ _ (t.loop-i.invariant.3 z.items z.closing z.at) (sym t.loop-i-test.ensures)
+    listed_tree path_of paths_of refl (λ t ts. refl) _ _ _ _ _ _ _ (t.loop-room.invariant.3 z.items z.closing z.at) (sym t.loop-room-test.ensures)
 
 pub returns-then-n-eq-PATHS_MAX : goal.returns-then-n-eq-PATHS_MAX
 returns-then-n-eq-PATHS_MAX c = let a = c.args in
     let s = a.list.text.now in
-    let l = c.loop-i in
+    let l = c.loop-room in
     let ks = take l.n l.room in
     let full : l.n ≡ 128 = omega arith in
     record {
       is = λ end u h.
-          let z = here (goal.at.returns-then-n-eq-PATHS_MAX c).In-loop-i end u h in
+          let z = here (goal.at.returns-then-n-eq-PATHS_MAX c).In-loop-room end u h in
           list_of_lem u ∙ ap path_list_in z.is
-          ∙ listed_long path_of paths_of refl (λ t ts. refl) s a.list.table.now c.behind-end.result z.items z.closing l.j (wholes s ks) (l.invariant.3 z.items z.closing z.at) (sym c.loop-i-test.ensures) (λ ps. leb (length ps) 128)
+          ∙ listed_long path_of paths_of refl (λ t ts. refl) s a.list.table.now c.behind-end.result z.items z.closing l.j (wholes s ks) (l.invariant.3 z.items z.closing z.at) (sym c.loop-room-test.ensures) (λ ps. leb (length ps) 128)
           (λ ps f. lt-leb (length ps) 128 (omega (arith, f, full, wholes_length s ks, length-take-le l.n l.room (omega (arith, l.invariant.0, l.invariant.1)))));
       go = tt;
     }
 
 pub read_path-requires : goal.read_path-requires
 read_path-requires c = let a = c.args in
-    let u = tree_here (goal.at.read_path-requires c).In-loop-i in
-    (value_of u.0, tree_value a.list.text.now a.list.table.now c.behind-end.result c.loop-i.j c.after_prefix.result u.0 u.1 c.after_prefix.ensures)
+    let u = tree_here (goal.at.read_path-requires c).In-loop-room in
+    (value_of u.0, tree_value a.list.text.now a.list.table.now c.behind-end.result c.loop-room.j c.after_prefix.result u.0 u.1 c.after_prefix.ensures)
 
 pub returns-in_err-room : goal.returns-in_err-room
 returns-in_err-room c =
     let s = c.args.list.text.now in
     let tb = c.args.list.table.now in
-    let l = c.loop-i in
+    let l = c.loop-room in
     let no = c.in_err-room.ensures.is in
-    subst (IsPaths s tb l.room) (sym c.from_residual.ensures)
+    subst (λ r. MatchOption r (IsPaths s tb None) (λ ps. IsPaths s tb (Some ps.now))) (sym c.from_residual.ensures)
     (record {
       is = λ end u h.
-          let z = here (goal.at.returns-in_err-room c).In-loop-i end u h in
+          let z = here (goal.at.returns-in_err-room c).In-loop-room end u h in
           list_of_lem u ∙ ap path_list_in z.is
-          ∙ list_bad z.items z.closing (listed_bad path_of paths_of refl (λ t ts. refl) s tb c.behind-end.result z.items z.closing l.j (wholes s (take l.n l.room)) (l.invariant.3 z.items z.closing z.at) (sym c.loop-i-test.ensures)
+          ∙ list_bad z.items z.closing (listed_bad path_of paths_of refl (λ t ts. refl) s tb c.behind-end.result z.items z.closing l.j (wholes s (take l.n l.room)) (l.invariant.3 z.items z.closing z.at) (sym c.loop-room-test.ensures)
           (λ t b. path_of_lem t ∙ no (value_of t) (tree_value s tb c.behind-end.result l.j c.after_prefix.result t b c.after_prefix.ensures)));
       go = tt;
     })
 
 pub next_tree-j-requires : goal.next_tree-j-requires
-next_tree-j-requires c = (c.args.list.text.now, tree_here (goal.at.next_tree-j-requires c).In-loop-i)
+next_tree-j-requires c = (c.args.list.text.now, tree_here (goal.at.next_tree-j-requires c).In-loop-room)
 
-pub loop-i-smaller : goal.loop-i-smaller
-loop-i-smaller c =
+pub loop-room-smaller : goal.loop-room-smaller
+loop-room-smaller c =
     let a = c.args in
-    let u = tree_here (goal.at.loop-i-smaller c).In-loop-i in
-    omega (arith, more_in a.list.table.now c.behind-end.result c.loop-i.j (sym c.loop-i-test.ensures), c.next_tree-j.ensures a.list.text.now u.0 u.1, tree_pos u.0)
+    let u = tree_here (goal.at.loop-room-smaller c).In-loop-room in
+    omega (arith, more_in a.list.table.now c.behind-end.result c.loop-room.j (sym c.loop-room-test.ensures), c.next_tree-j.ensures a.list.text.now u.0 u.1, tree_pos u.0)
 
-pub loop-i-preserved : goal.loop-i-preserved
-loop-i-preserved c =
+pub loop-room-preserved : goal.loop-room-preserved
+loop-room-preserved c =
     let s = c.args.list.text.now in
     let tb = c.args.list.table.now in
-    let l = c.loop-i in
+    let l = c.loop-room in
     let k = c.in_ok-room.field-0 in
     let is = c.in_ok-room.ensures.is in
     let more : l.n < length l.room = omega (arith, l.invariant.0, l.invariant.1) in (
@@ -92,20 +92,20 @@ loop-i-preserved c =
       going_put l.room l.n k more l.invariant.1 l.invariant.2 c.in_ok-room.ensures.sized.0 c.in_ok-room.ensures.sized.1,
       λ vs cl h. subst (Listed path_of paths_of refl (λ t ts. refl) s tb c.behind-end.result vs cl c.next_tree-j.result)
           (sym (ap (wholes s) (put_last l.room l.n k more) ∙ wholes_append s (take l.n l.room) (k ∷ [])))
-          (listed_next path_of paths_of refl (λ t ts. refl) s tb c.behind-end.result vs cl l.j (wholes s (take l.n l.room)) (l.invariant.3 vs cl h) (sym c.loop-i-test.ensures) c.next_tree-j.result c.next_tree-j.ensures (whole s k)
+          (listed_next path_of paths_of refl (λ t ts. refl) s tb c.behind-end.result vs cl l.j (wholes s (take l.n l.room)) (l.invariant.3 vs cl h) (sym c.loop-room-test.ensures) c.next_tree-j.result c.next_tree-j.ensures (whole s k)
           (λ u b. path_of_lem u ∙ is (value_of u) (tree_value s tb c.behind-end.result l.j c.after_prefix.result u b c.after_prefix.ensures))),
     )
 
 pub returns : goal.returns
 returns c =
     let s = c.args.list.text.now in
-    let l = c.loop-i in
+    let l = c.loop-room in
     record {
-      go = (l.invariant.0, l.invariant.1, l.invariant.2);
+      go = subst (λ n. (n ≤ paths_max) × Going (take l.n l.room) 0 (below n)) (sym (length-take-le l.n l.room (omega (arith, l.invariant.0, l.invariant.1)))) (l.invariant.0, l.invariant.2);
       is = λ end u h.
-          let t = (goal.at.returns c).After-loop-i in
+          let t = (goal.at.returns c).After-loop-room in
           let z = the_list _ _ _ _ t.behind-end.ensures (value_of u) (tree_value s c.args.list.table.now end 0 t.after_prefix-i.result u h t.after_prefix-i.ensures) (t.if-not-is.ensures.0 refl) in
           list_of_lem u ∙ ap path_list_in z.is ∙ list_done z.items z.closing (wholes s (take l.n l.room))
-          (listed_all path_of paths_of refl (λ t ts. refl) _ _ _ _ _ _ _ (l.invariant.3 z.items z.closing z.at) (sym c.loop-i-test.ensures))
+          (listed_all path_of paths_of refl (λ t ts. refl) _ _ _ _ _ _ _ (l.invariant.3 z.items z.closing z.at) (sym c.loop-room-test.ensures))
           (omega (arith, l.invariant.0, wholes_length s (take l.n l.room), length-take-le l.n l.room (omega (arith, l.invariant.0, l.invariant.1))));
     }

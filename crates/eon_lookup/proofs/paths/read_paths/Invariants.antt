@@ -7,11 +7,11 @@ use Rattle.eon_lookup.specs.Keys.{below, wholes, Going}
 use Rattle.eon_lookup.proofs.Forms.{Listed}
 use Rattle.eon_lookup.proofs.paths.read_paths.Given as goal
 
-abbrev pub invariant-loop-i : goal.invariant-loop-i
-invariant-loop-i l = (l.n ≤ 128)
+abbrev pub invariant-loop-room : goal.invariant-loop-room
+invariant-loop-room l = (l.n ≤ 128)
     × (length l.room ≡ 128)
     × Going (take l.n l.room) 0 (below l.n)
     × ((vs : TokenTrees) (cl : List Slice) → ValueAt l.list.text.now l.list.table.now l.i (list_of vs cl) → Listed path_of paths_of refl (λ t ts. refl) l.list.text.now l.list.table.now l.end vs cl l.j (wholes l.list.text.now (take l.n l.room)))
 
-abbrev pub decreases-loop-i : goal.decreases-loop-i
-decreases-loop-i l = l.end - l.j
+abbrev pub decreases-loop-room : goal.decreases-loop-room
+decreases-loop-room l = l.end - l.j
