@@ -1,5 +1,6 @@
 -- The nearest byte, record by record, and the call with it.
-use Rattle.std.proofs.Common.{Option, None, Some, ◌≡◌, refl, ap, ◌∙◌, List, [], ◌∷◌, ◌++◌, ℕ, ◌+◌, zero-add}
+use Rattle.std.proofs.Common.{Option, None, Some, ◌≡◌, refl, sym, ap, ◌∙◌, List, [], ◌∷◌, ◌++◌, append-nil, append_assoc, ℕ, zero, suc, ◌+◌, add-one}
+use Rattle.std.specs.List.{fold, range_with_len}
 use Rattle.std.specs.Option.{ok_or}
 use Rattle.eon_spec.specs.Records.{Record, tree_records}
 use Rattle.eon_spec.specs.declared.refusal.Refusal.{Refusal}
@@ -8,18 +9,24 @@ use Rattle.eon_spec.specs.Calls.{refused_with, nowhere, outcome_of, or_refused}
 use Rattle.eon_spec.specs.Pick.{nearest_in, nearer, nearest, picked, record_at_call}
 use Rattle.eon_table.specs.Words.{record_of, records_of}
 use Rattle.eon_table.specs.Finished.{SomeFinished}
-use Rattle.eon_table.proofs.Table.{records_more}
 use Rattle.eon_table.proofs.Finished.{answers}
 use Rattle.eon_pick.proofs.Nearest.{nearest_next}
 
-pub none_seen : (o : ℕ) (tb : List ℕ) → None ≡ nearest o (records_of tb 0 0)
-unfolding records_of
-none_seen o tb = refl
+module _ (o : ℕ) (tb : List ℕ) where
+  -- with one record more
+  abbrev pub with : Option ℕ → ℕ → Option ℕ
+  with best i = nearer o best (nearest_in o (record_of tb i))
 
-pub one_more : (o : ℕ) (tb : List ℕ) (i : ℕ) → nearest o (records_of tb 0 (i + 1)) ≡ nearer o (nearest o (records_of tb 0 i)) (nearest_in o (record_of tb i))
-one_more o tb i =
-    ap (nearest o) (records_more tb 0 i ∙ ap (λ (j : ℕ). records_of tb 0 i ++ (record_of tb j ∷ [])) (zero-add i))
-    ∙ nearest_next o (records_of tb 0 i) (record_of tb i)
+  folded : (front : List Record) (a n : ℕ) → fold with (nearest o front) (range_with_len a n) ≡ nearest o (front ++ records_of tb a n)
+  unfolding records_of
+  folded front a zero = ap (nearest o) (sym (append-nil front))
+  folded front a (suc n) =
+      ap (λ (b : Option ℕ). fold with b (range_with_len (a + 1) n)) (sym (nearest_next o front (record_of tb a)))
+      ∙ folded (front ++ (record_of tb a ∷ [])) (a + 1) n
+      ∙ ap (nearest o) (append_assoc front (record_of tb a ∷ []) (records_of tb (a + 1) n) ∙ ap (λ (k : ℕ). front ++ (record_of tb a ∷ records_of tb k n)) (add-one a))
+
+  pub all_folded : (n : ℕ) → fold with None (range_with_len 0 n) ≡ nearest o (records_of tb 0 n)
+  all_folded n = folded [] 0 n
 
 pub at_offset : (s tb : List ℕ) (n o : ℕ) → SomeFinished s tb n → or_refused 27 (picked o (records_of tb 0 n)) ≡ record_at_call s tb o
 unfolding record_at_call

@@ -1,6 +1,8 @@
--- Laws of the hits: one record more, how many, what a store at their end leaves, and the call.
-use Rattle.std.proofs.Common.{◌≡◌, refl, sym, ap, ap₂, ◌∙◌, Bool, true, false, cond, List, [], ◌∷◌, ◌++◌, length, set, length-append, ℕ, zero, suc, ◌+◌, ◌-◌, ◌≤◌, ◌<◌, append-nil, add-zero, zero-add, suc-add, add-suc, add-one, arith}
-use Rattle.std.specs.List.{filter, range_with_len}
+-- Laws of the hits: which numbers, how many, what a store at their end leaves, and the call.
+use Rattle.std.proofs.Common.{◌≡◌, refl, sym, ap, ◌∙◌, Bool, true, false, cond, List, [], ◌∷◌, ◌++◌, map, length, get_or, set, ℕ, zero, suc, ◌+◌, ◌≤◌, ◌<◌, zero-add, add-one, arith}
+use Rattle.std.specs.List.{filter, range_with_len, enumerate_from}
+use Rattle.std.proofs.lemmas.List.{map-append, length-map}
+use Rattle.std.proofs.lemmas.List.FromFn.{length-enumerate_from, get_or-enumerate_from}
 use Rattle.std.proofs.lemmas.Bool.{le-leb, lt-leb}
 use Rattle.eon_spec.specs.declared.Hit.{Hit}
 use Rattle.eon_spec.specs.Records.{Record, tree_records}
@@ -8,74 +10,63 @@ use Rattle.eon_spec.specs.Calls.{done, refused_with, nowhere, after, written, fi
 use Rattle.eon_spec.specs.Pick.{shares_byte, hit_of, hit_then, hits, records_in_call}
 use Rattle.eon_table.specs.Words.{record_of, records_of}
 use Rattle.eon_table.specs.Finished.{SomeFinished}
-use Rattle.eon_table.proofs.Table.{records_length, records_more, records_split}
 use Rattle.eon_table.proofs.Finished.{answers}
 use Rattle.eon_pick.specs.Listed.{all_hits}
 
-module _ (from to : ℕ) where
-  then_append : (b : Bool) (h : Hit) (a c : List Hit) → hit_then b h (a ++ c) ≡ hit_then b h a ++ c
-  then_append true h a c = refl
-  then_append false h a c = refl
-
-  hits_append : (n : ℕ) (a c : List Record) → hits from to n (a ++ c) ≡ hits from to n a ++ hits from to (n + length a) c
-  hits_append n [] c = ap (λ (k : ℕ). hits from to k c) (sym (add-zero n))
-  hits_append n (r ∷ a) c =
-      ap (hit_then (shares_byte from to r) (hit_of n r)) (hits_append (suc n) a c ∙ ap (λ (k : ℕ). hits from to (suc n) a ++ hits from to k c) (suc-add n (length a) ∙ sym (add-suc n (length a))))
-      ∙ then_append (shares_byte from to r) (hit_of n r) (hits from to (suc n) a) (hits from to (n + suc (length a)) c)
-
-  module _ (tb : List ℕ) where
-    pub none_listed : all_hits from to 0 tb ≡ []
-    unfolding all_hits records_of
-    none_listed = refl
-
-    -- one record more
-    next : (i : ℕ) → all_hits from to (i + 1) tb ≡ all_hits from to i tb ++ hit_then (shares_byte from to (record_of tb i)) (hit_of i (record_of tb i)) []
-    unfolding all_hits
-    next i =
-        ap (hits from to 0) (records_more tb 0 i)
-        ∙ hits_append 0 (records_of tb 0 i) (record_of tb (0 + i) ∷ [])
-        ∙ ap₂ (λ (x y : ℕ). hits from to 0 (records_of tb 0 i) ++ hit_then (shares_byte from to (record_of tb x)) (hit_of y (record_of tb x)) []) (zero-add i) (zero-add (length (records_of tb 0 i)) ∙ records_length tb 0 i)
-
-    pub hit : (i : ℕ) → shares_byte from to (record_of tb i) ≡ true → all_hits from to (i + 1) tb ≡ all_hits from to i tb ++ (hit_of i (record_of tb i) ∷ [])
-    hit i e = next i ∙ ap (λ (b : Bool). all_hits from to i tb ++ hit_then b (hit_of i (record_of tb i)) []) e
-
-    pub miss : (i : ℕ) → shares_byte from to (record_of tb i) ≡ false → all_hits from to (i + 1) tb ≡ all_hits from to i tb
-    miss i e = next i ∙ ap (λ (b : Bool). all_hits from to i tb ++ hit_then b (hit_of i (record_of tb i)) []) e ∙ append-nil (all_hits from to i tb)
-
-    no_more : (i n : ℕ) → i ≤ n → length (all_hits from to i tb) ≤ length (all_hits from to n tb)
-    unfolding all_hits
-    no_more i n h =
-        let e : n ≡ i + (n - i) = omega arith in
-        let s : hits from to 0 (records_of tb 0 n) ≡ hits from to 0 (records_of tb 0 i) ++ hits from to (0 + length (records_of tb 0 i)) (records_of tb (0 + i) (n - i)) =
-        ap (λ (k : ℕ). hits from to 0 (records_of tb 0 k)) e ∙ ap (hits from to 0) (records_split tb 0 i (n - i)) ∙ hits_append 0 (records_of tb 0 i) (records_of tb (0 + i) (n - i)) in
-        omega (arith, ap length s, length-append (hits from to 0 (records_of tb 0 i)) (hits from to (0 + length (records_of tb 0 i)) (records_of tb (0 + i) (n - i))))
-
-    -- so there is room for a hit in a list with room for all
-    pub room_left : (i n : ℕ) → i < n → shares_byte from to (record_of tb i) ≡ true → length (all_hits from to i tb) < length (all_hits from to n tb)
-    room_left i n h e =
-        omega (arith, no_more (i + 1) n (omega arith), ap length (hit i e), length-append (all_hits from to i tb) (hit_of i (record_of tb i) ∷ []))
-
-    -- how many
-    filtered : (a n : ℕ) → length (filter (λ i. shares_byte from to (record_of tb i)) (range_with_len a n)) ≡ length (hits from to a (records_of tb a n))
-    unfolding records_of
-    filtered a zero = refl
-    filtered a (suc n) = go (shares_byte from to (record_of tb a)) (ap (λ (k : ℕ). length (filter (λ i. shares_byte from to (record_of tb i)) (range_with_len k n))) (add-one a) ∙ filtered (suc a) n)
-      where
-        go : (b : Bool) → length (filter (λ i. shares_byte from to (record_of tb i)) (range_with_len (a + 1) n)) ≡ length (hits from to (suc a) (records_of tb (suc a) n))
-            → length (cond b (a ∷ filter (λ i. shares_byte from to (record_of tb i)) (range_with_len (a + 1) n)) (filter (λ i. shares_byte from to (record_of tb i)) (range_with_len (a + 1) n)))
-            ≡ length (hit_then b (hit_of a (record_of tb a)) (hits from to (suc a) (records_of tb (suc a) n)))
-        go true e = ap suc e
-        go false e = e
-
-    pub counted : (n : ℕ) → length (filter (λ i. shares_byte from to (record_of tb i)) (range_with_len 0 n)) ≡ length (all_hits from to n tb)
-    unfolding all_hits
-    counted n = filtered 0 n
-
-pub stored : (hs l : List Hit) (x : Hit) → length hs < length l → set (written hs l) (length hs) x ≡ written (hs ++ (x ∷ [])) l
+stored : (hs l : List Hit) (x : Hit) → length hs < length l → set (written hs l) (length hs) x ≡ written (hs ++ (x ∷ [])) l
 stored [] [] x p = absurd (omega arith)
 stored [] (y ∷ l) x p = refl
 stored (h ∷ hs) [] x p = absurd (omega arith)
 stored (h ∷ hs) (y ∷ l) x p = ap (λ (r : List Hit). h ∷ r) (stored hs l x (omega arith))
+
+module _ (from to : ℕ) (tb : List ℕ) where
+  abbrev shares : ℕ → Bool
+  shares i = shares_byte from to (record_of tb i)
+
+  abbrev one : ℕ → Hit
+  one i = hit_of i (record_of tb i)
+
+  -- the numbers of the hits
+  abbrev pub found : ℕ → List ℕ
+  found n = filter shares (range_with_len 0 n)
+
+  -- the hit of a number that stands beside its place
+  abbrev pub placed : ℕ × ℕ → Hit
+  placed p = one p.1
+
+  listed_from : (a n : ℕ) → map one (filter shares (range_with_len a n)) ≡ hits from to a (records_of tb a n)
+  unfolding records_of
+  listed_from a zero = refl
+  listed_from a (suc n) = go (shares a) (ap (λ (k : ℕ). map one (filter shares (range_with_len k n))) (add-one a) ∙ listed_from (suc a) n)
+    where
+      go : (b : Bool) → map one (filter shares (range_with_len (a + 1) n)) ≡ hits from to (suc a) (records_of tb (suc a) n)
+          → map one (cond b (a ∷ filter shares (range_with_len (a + 1) n)) (filter shares (range_with_len (a + 1) n))) ≡ hit_then b (one a) (hits from to (suc a) (records_of tb (suc a) n))
+      go true e = ap (λ (hs : List Hit). one a ∷ hs) e
+      go false e = e
+
+  all_listed : (n : ℕ) → map one (found n) ≡ all_hits from to n tb
+  unfolding all_hits
+  all_listed n = listed_from 0 n
+
+  pub counted : (n : ℕ) → length (found n) ≡ length (all_hits from to n tb)
+  counted n = sym (length-map (found n) one) ∙ ap length (all_listed n)
+
+  pub all_placed : (n : ℕ) → map placed (enumerate_from 0 (found n)) ≡ all_hits from to n tb
+  all_placed n = go 0 (found n) ∙ all_listed n
+    where
+      go : (k : ℕ) (is : List ℕ) → map placed (enumerate_from k is) ≡ map one is
+      go k [] = refl
+      go k (i ∷ is) = ap (λ (hs : List Hit). one i ∷ hs) (go (k + 1) is)
+
+  -- one more is written in a list with room for all
+  pub one_more : (n : ℕ) (l : List Hit) (ps : List (ℕ × ℕ)) (p : ℕ × ℕ) → length (all_hits from to n tb) ≤ length l → (length ps < length (enumerate_from 0 (found n))) × (p ≡ get_or (enumerate_from 0 (found n)) (length ps) p)
+      → (p.0 < length l) × (set (written (map placed ps) l) p.0 (placed p) ≡ written (map placed (ps ++ (p ∷ []))) l)
+  one_more n l ps p room t =
+      let k : p.0 ≡ length (map placed ps) = ap (λ (q : ℕ × ℕ). q.0) (t.1 ∙ get_or-enumerate_from 0 (found n) (length ps) p (omega (arith, t.0, length-enumerate_from 0 (found n)))) ∙ zero-add (length ps) ∙ sym (length-map ps placed) in
+      let h : length (map placed ps) < length l = omega (arith, t.0, length-map ps placed, length-enumerate_from 0 (found n), counted n) in (
+        omega (arith, k),
+        ap (λ (m : ℕ). set (written (map placed ps) l) m (placed p)) k ∙ stored (map placed ps) l (placed p) h ∙ ap (λ (hs : List Hit). written hs l) (sym (map-append placed ps (p ∷ []))),
+      )
 
 -- ---- the call
 

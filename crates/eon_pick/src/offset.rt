@@ -42,11 +42,10 @@ impl<'a> Records<'a> {
     fn nearest_byte(self, o: usize) -> Option<usize>
         ensures { result ≡ nearest o (records_of self.entry.sheet.table.now 0 self.entry.count) }
     {
-        let mut best = None;
-        for i in 0..self.count {
-            best = nearer(o, best, nearest_in(self.sheet, i, o));
-        }
-        best
+        (0..self.count).fold(
+            None,
+            |best, i| nearer(o, best, nearest_in(self.sheet, i, o)),
+        )
     }
 
     // The last record that holds the byte.

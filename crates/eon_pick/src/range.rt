@@ -36,7 +36,7 @@ pub fn records_in(
     Ok(count)
 }
 
-// The first records of a sheet, and the range that is asked for.
+// The first records of a sheet, and the range that is asked for. No `Records` in it: each line that reads a record would be longer by a field.
 #[derive(Clone, Copy)]
 struct Query<'a> {
     sheet: Sheet<'a>,
@@ -74,12 +74,10 @@ impl<'a> Query<'a> {
         requires { length (all_hits self.from self.to self.records self.sheet.table.now) ≤ length hits.old }
         ensures { hits.new ≡ written (all_hits self.entry.from self.entry.to self.entry.records self.entry.sheet.table.now) hits.old }
     {
-        let mut count = 0;
-        for i in 0..self.records {
-            if self.is_hit(i) {
-                hits[count] = self.hit(i);
-                count += 1;
-            }
+        // By index: of the list behind an `iter_mut().zip(..)` that is over, a proof knows the length alone.
+        let found = (0..self.records).filter(|&i| self.is_hit(i));
+        for (count, i) in found.enumerate() {
+            hits[count] = self.hit(i);
         }
     }
 }

@@ -1,34 +1,41 @@
-use Rattle.std.proofs.Common.{[], ◌∷◌, length, set, sym, ap, ap₂, ◌∙◌, arith, length-append}
+use Rattle.std.proofs.Common.{refl, sym, rules, tests, ap, ap₂, ◌∙◌, ◌≡◌, ◌<◌, ◌++◌, [], ◌∷◌, length, map, set, arith}
+use Rattle.std.proofs.lemmas.List.{map-id}
+use Rattle.std.proofs.lemmas.Iterator.{YieldsList-from_range}
+use Rattle.std.proofs.lemmas.Iterator.Consumers.{YieldsList-at, YieldsList-from_filter, YieldsList-from_enumerate, YieldsList-turn, YieldsList-end}
 use Rattle.eon_spec.specs.Calls.{written}
-use Rattle.eon_spec.specs.Pick.{hit_of}
+use Rattle.eon_spec.specs.Pick.{shares_byte}
 use Rattle.eon_table.specs.Words.{record_of}
-use Rattle.eon_pick.specs.Listed.{all_hits}
-use Rattle.eon_pick.proofs.Listing.{none_listed, hit, miss, room_left, stored}
+use Rattle.eon_pick.proofs.Listing.{placed, all_placed, one_more}
 use Rattle.eon_pick.proofs.range.Query.fill.Goals as goal
-use Rattle.eon_pick.proofs.range.Query.fill.Goals.{then-is_hit, else-is_hit}
+use Rattle.eon_pick.proofs.range.Query.fill.Goals.{In-Some}
 
-pub loop-i-init : goal.loop-i-init
-loop-i-init c = let n = sym (none_listed c.args.self.from c.args.self.to c.args.self.sheet.table.now) in
-    (ap length n, ap (λ hs. written hs c.args.hits.now) n)
+-- the place of a hit, and what a store there leaves
+here : (x : In-Some) → (x.in-Some.count < length x.args.hits.now)
+    × (set (written (map (placed x.args.self.from x.args.self.to x.args.self.sheet.table.now) x.loop-count.yielded) x.args.hits.now) x.in-Some.count (placed x.args.self.from x.args.self.to x.args.self.sheet.table.now (x.in-Some.count, x.in-Some.i)) ≡ written (map (placed x.args.self.from x.args.self.to x.args.self.sheet.table.now) (x.loop-count.yielded ++ ((x.in-Some.count, x.in-Some.i) ∷ []))) x.args.hits.now)
+here x =
+    let q = x.args.self in
+    one_more q.from q.to q.sheet.table.now q.records x.args.hits.now x.loop-count.yielded (x.in-Some.count, x.in-Some.i) x.requires
+    (YieldsList-turn
+    (YieldsList-at x.into_iter-count-iterator.ensures.into_iter_gives (YieldsList-from_enumerate (YieldsList-at x.enumerate-count-items.ensures.source (YieldsList-from_filter _ (λ i. shares_byte q.from q.to (record_of q.sheet.table.now i)) (YieldsList-from_range 0 q.records q.records x.filter-found.ensures.source (omega arith)) x.filter-found.ensures.closure (λ x b q k. search (rules, tests)))) x.enumerate-count-items.ensures.count))
+    x.loop-count.yielded _ x.loop-count.yielded_by _ _ (x.in-Some.count, x.in-Some.i) x.in-Some.is x.next.ensures.steps)
+
+pub loop-count-init : goal.loop-count-init
+loop-count-init c = refl
 
 pub bounds-hits-count : goal.bounds-hits-count
-bounds-hits-count c =
-    omega (arith, c.loop-i.invariant.0, c.loop-i.auto.hits, c.requires, room_left _ _ _ _ _ c.loop-i-test.true (sym c.if-is_hit.ensures))
+bounds-hits-count c = omega (arith, (here (goal.at.bounds-hits-count c).In-Some).0, c.loop-count.auto.hits)
 
-pub loop-i-preserved : goal.loop-i-preserved
-loop-i-preserved c =
+pub loop-count-preserved : goal.loop-count-preserved
+loop-count-preserved c = ap₂ (λ hs h. set hs c.in-Some.count h) c.loop-count.invariant c.hit.ensures ∙ (here (goal.at.loop-count-preserved c).In-Some).1
+
+pub returns : goal.returns
+returns c =
     let q = c.args.self in
-    let l = c.loop-i in
-    elim c.if-is_hit.branch [
-      | then-is_hit w ↦
-          let e = hit q.from q.to q.sheet.table.now l.i (sym w.if-is_hit.ensures) in
-          let r = room_left q.from q.to q.sheet.table.now l.i q.records c.loop-i-test.true (sym w.if-is_hit.ensures) in (
-            omega (arith, w.count-is, l.invariant.0, ap length e, length-append (all_hits q.from q.to l.i q.sheet.table.now) (hit_of l.i (record_of q.sheet.table.now l.i) ∷ [])),
-            w.hits-is ∙ ap₂ (λ m h. set m l.count h) l.invariant.1 w.hit.ensures ∙ ap (λ k. set (written (all_hits q.from q.to l.i q.sheet.table.now) c.args.hits.now) k (hit_of l.i (record_of q.sheet.table.now l.i))) l.invariant.0
-                ∙ stored (all_hits q.from q.to l.i q.sheet.table.now) c.args.hits.now (hit_of l.i (record_of q.sheet.table.now l.i)) (omega (arith, r, c.requires))
-                ∙ ap (λ hs. written hs c.args.hits.now) (sym e),
-          )
-      | else-is_hit w ↦
-          let e = sym (miss q.from q.to q.sheet.table.now l.i (sym w.if-is_hit.ensures)) in
-          (w.count-is ∙ l.invariant.0 ∙ ap length e, w.hits-is ∙ l.invariant.1 ∙ ap (λ hs. written hs c.args.hits.now) e)
-    ]
+    let all =
+    YieldsList-end
+    (YieldsList-at c.into_iter-count-iterator.ensures.into_iter_gives (YieldsList-from_enumerate (YieldsList-at c.enumerate-count-items.ensures.source (YieldsList-from_filter _ (λ i. shares_byte q.from q.to (record_of q.sheet.table.now i)) (YieldsList-from_range 0 q.records q.records c.filter-found.ensures.source (omega arith)) c.filter-found.ensures.closure (λ x b q k. search (rules, tests)))) c.enumerate-count-items.ensures.count))
+    c.loop-count.yielded _ c.loop-count.yielded_by _ _ c.in-None.is c.next.ensures.steps in
+    c.loop-count.invariant ∙ ap (λ hs. written hs c.args.hits.now) (ap (map (placed q.from q.to q.sheet.table.now)) (sym (map-id c.loop-count.yielded) ∙ all.0) ∙ all_placed q.from q.to q.sheet.table.now q.records)
+
+pub offset_bounds-hits-count : goal.offset_bounds-hits-count
+offset_bounds-hits-count c = omega (arith, (here (goal.at.offset_bounds-hits-count c).In-Some).0, c.loop-count.auto.hits, c.well_formed)
