@@ -1,5 +1,6 @@
 -- The paths as the walk has them: where each key's text stands in the path text.
 use Rattle.std.specs.Prelude.{ℕ, zero, suc, ◌+◌, ◌-◌, ◌≤◌, ◌<◌, ◌≡◌, Bool, true, ◌||◌, cond, List, [], ◌∷◌, ◌++◌, length, get_or, eqb, Option, None, Some}
+use Rattle.std.specs.Borrow.{Bor}
 use Rattle.eon_spec.specs.Base.{elem}
 use Rattle.eon_spec.specs.Tree.{TokenTree, TokenValue}
 use Rattle.eon_spec.specs.Calls.{record_text}
@@ -91,15 +92,15 @@ pub record IsPath (q tq : List ℕ) (i : ℕ) (r : Option Keys) : Type 0 where
   pub sized : Sized r
 
 -- the paths that were read
-abbrev pub paths_by : List ℕ → Option (List Keys) → Option (List Path)
+abbrev pub paths_by : List ℕ → Option (Bor (List Keys)) → Option (List Path)
 paths_by q None = None
-paths_by q (Some ks) = Some (wholes q ks)
+paths_by q (Some ks) = Some (wholes q ks.now)
 
-abbrev pub AllGo : Option (List Keys) → Type 0
+abbrev pub AllGo : Option (Bor (List Keys)) → Type 0
 AllGo None = Unit {0}
-AllGo (Some ks) = (length ks ≤ paths_max) × Going ks 0 (below (length ks))
+AllGo (Some ks) = (length ks.now ≤ paths_max) × Going ks.now 0 (below (length ks.now))
 
 -- the path list that a tree is
-pub record IsPaths (q tq : List ℕ) (r : Option (List Keys)) : Type 0 where
+pub record IsPaths (q tq : List ℕ) (r : Option (Bor (List Keys))) : Type 0 where
   pub is : (end : ℕ) (u : TokenTree) → TreeAt q tq end 0 u → path_list u ≡ paths_by q r
   pub go : AllGo r

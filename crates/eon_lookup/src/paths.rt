@@ -1,5 +1,5 @@
 // The form of a path list, a list of at most PATHS_MAX paths, each a list of 1 to KEYS_MAX keys.
-ghost use Rattle.std.specs.Prelude.{◌≡◌, ◌<◌, ℕ, None, Some, MatchOption};
+ghost use Rattle.std.specs.Prelude.{◌≡◌, ◌<◌, ℕ};
 ghost use Rattle.eon_table.specs.Words.{word, part};
 ghost use Rattle.eon_table.specs.TreeAt.{SomeTree, SomeValue};
 ghost use Rattle.eon_spec.specs.Lookup.{keys_max};
@@ -40,11 +40,11 @@ pub fn is_key(sheet: Sheet, i: usize) -> bool
     sheet.is(i, RecordKind::Identifier) || sheet.is(i, RecordKind::String)
 }
 
-// The paths that the sheet's tree lists, in their order in the room, if it is a list of paths. As in `read_path`, how far a turn goes is said by the
-// table, so neither loop is a `for`.
+// The paths that the sheet's tree lists, in their order in the room, if it is a list of paths. As in `read_path`, how far a turn goes is said
+// by the table, so neither loop is a `for`, and what is read is counted, since it is kept in an array: there is no heap.
 pub fn read_paths<'a>(list: Sheet, room: &'a mut [Keys; PATHS_MAX]) -> Option<&'a [Keys]>
     requires { (end : ℕ) × SomeTree list.text.now list.table.now end 0 }
-    ensures { MatchOption result (IsPaths list.entry.text.now list.entry.table.now None) (λ paths. IsPaths list.entry.text.now list.entry.table.now (Some paths.now)) }
+    ensures { IsPaths list.entry.text.now list.entry.table.now result }
 {
     let i = list.after_prefix(0);
     if !list.is(i, RecordKind::List) {

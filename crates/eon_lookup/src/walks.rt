@@ -86,6 +86,7 @@ impl<'a> Live<'a> {
             return None;
         }
         let key = event.record_text(k);
+        // One pass, which compares each path's key once: two chains, of those that end and of those that go on, would compare it twice.
         let behind = self.matched + 1;
         let mut n: usize = 0;
         for &p in self.numbers {

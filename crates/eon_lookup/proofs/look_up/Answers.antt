@@ -1,11 +1,10 @@
-use Rattle.std.proofs.Common.{Option, None, Some, Bor, MatchOption, Ok, Err, ◌≡◌, sym, ap, ◌∙◌, subst, List, length, take, ℕ, rules, arith}
+use Rattle.std.proofs.Common.{Some, Ok, Err, ◌≡◌, sym, ap, ◌∙◌, subst, List, length, take, ℕ, rules, arith}
 use Rattle.eon_spec.specs.Refused.{refusal_of}
 use Rattle.eon_spec.specs.Calls.{refused_with}
 use Rattle.eon_spec.specs.Lookup.{IsLookup}
 use Rattle.eon_table.proofs.Finished.{finished_done}
 use Rattle.eon_lookup.specs.Keys.{below, rests, Going, IsPaths}
 use Rattle.eon_lookup.specs.Live.{Looks}
-use Rattle.eon_lookup.specs.declared.paths.Keys.{Keys}
 use Rattle.eon_lookup.proofs.Lists.{below_length, numbers_below}
 use Rattle.eon_lookup.proofs.Forms.{rests_all}
 use Rattle.eon_lookup.proofs.Result.{refusal_is, event_refused, paths_refused, form_refused, looked_up, found_is}
@@ -27,22 +26,18 @@ returns-in_err-finished-2 c =
 pub read_paths-requires : goal.read_paths-requires
 read_paths-requires c = let y = finished_done _ _ _ c.in_ok-finished-2.ensures in (_, (y.0, y.1.holds))
 
--- what was read, by the outcome
-abbrev Read : List ℕ → List ℕ → Option (Bor (List Keys)) → Type 0
-Read q tq r = MatchOption r (IsPaths q tq None) (λ paths. IsPaths q tq (Some paths.now))
-
 pub returns-in_err-paths : goal.returns-in_err-paths
 returns-in_err-paths c =
     let q = c.args.list.text.now in
     let x = finished_done _ _ _ c.in_ok-finished.ensures in
     let y = finished_done _ _ _ c.in_ok-finished-2.ensures in
-    let none = subst (Read q c.args.list.table.now) c.in_err-paths.ensures.ok_part c.read_paths.ensures in
+    let none = subst (IsPaths q c.args.list.table.now) c.in_err-paths.ensures.ok_part c.read_paths.ensures in
     let e : c.from_residual-in_err-paths.result ≡ Err c.new.result = search rules in
     refusal_is c.new.result (form_refused _ _ _ _ x.0 x.1.read y.0 y.1.read (none.is _ y.0 y.1.holds) ∙ ap refused_with (sym (ap refusal_of c.new.ensures))) e c.requires
 
 -- the paths that were read
-some : (t : After-from_fn-numbers) → IsPaths t.args.list.text.now t.args.list.table.now (Some t.in_ok-paths.paths.now)
-some t = subst (Read t.args.list.text.now t.args.list.table.now) t.in_ok-paths.ensures.ok_part t.read_paths.ensures
+some : (t : After-from_fn-numbers) → IsPaths t.args.list.text.now t.args.list.table.now (Some t.in_ok-paths.paths)
+some t = subst (IsPaths t.args.list.text.now t.args.list.table.now) t.in_ok-paths.ensures.ok_part t.read_paths.ensures
 
 -- and their numbers
 all : (t : After-from_fn-numbers) → take (length t.in_ok-paths.paths.now) t.from_fn-numbers.result ≡ below (length t.in_ok-paths.paths.now)

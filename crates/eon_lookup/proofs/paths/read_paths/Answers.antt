@@ -1,4 +1,4 @@
-use Rattle.std.proofs.Common.{None, Some, MatchOption, ◌≤◌, ◌≡◌, refl, sym, ap, ◌∙◌, subst, ℕ, [], ◌∷◌, length, leb, take, length-take-le, length-set, ◌+◌, ◌<◌, arith}
+use Rattle.std.proofs.Common.{◌≤◌, ◌≡◌, refl, sym, ap, ◌∙◌, subst, ℕ, [], ◌∷◌, length, leb, take, length-take-le, length-set, ◌+◌, ◌<◌, arith}
 use Rattle.std.proofs.lemmas.Bool.{false≢true, lt-leb}
 use Rattle.eon_spec.specs.Tree.{TokenTree}
 use Rattle.eon_spec.specs.Lookup.{paths_max, path_of, paths_of, path_list_in}
@@ -60,7 +60,7 @@ returns-in_err-room c =
     let tb = c.args.list.table.now in
     let l = c.loop-room in
     let no = c.in_err-room.ensures.is in
-    subst (λ r. MatchOption r (IsPaths s tb None) (λ ps. IsPaths s tb (Some ps.now))) (sym c.from_residual.ensures)
+    subst (IsPaths s tb) (sym c.from_residual.ensures)
     (record {
       is = λ end u h.
           let z = here (goal.at.returns-in_err-room c).In-loop-room end u h in
