@@ -1,5 +1,6 @@
 -- The form of a path list: items read off one after the other.
 use Rattle.std.proofs.Common.{append-nil, Option, None, Some, ◌≡◌, refl, sym, ap, ap₂, ◌∙◌, subst, Bool, true, false, ◌&&◌, cond, List, [], ◌∷◌, ◌++◌, append_assoc, ℕ, zero, suc, ◌+◌, ◌-◌, ◌≤◌, ◌<◌, arith, add-zero, zero-add, add-one, length, get_or, set, take, length-append, get_or-set_same, get_or-set_other, get_or-append-add, take-suc, take-suc-set, take_all, length-take-le, leb, le-leb}
+use Rattle.std.proofs.lemmas.List.{map-append}
 use Rattle.std.proofs.Math.ListN.{get_or-append}
 use Rattle.std.proofs.lemmas.Bool.{lt-leb}
 use Rattle.std.proofs.Math.Decide.{dec_lt}
@@ -118,15 +119,6 @@ module _ (q : List ℕ) where
   pub whole_length : (k : Keys) → length (whole q k) ≡ k.len
   whole_length k = keys_length k.places k.len 0
 
-  -- one path more is stored
-  pub wholes_append : (a b : List Keys) → wholes q (a ++ b) ≡ wholes q a ++ wholes q b
-  wholes_append [] b = refl
-  wholes_append (k ∷ a) b = ap (λ (l : List Path). whole q k ∷ l) (wholes_append a b)
-
-  pub wholes_length : (a : List Keys) → length (wholes q a) ≡ length a
-  wholes_length [] = refl
-  wholes_length (k ∷ a) = ap suc (wholes_length a)
-
 pub path_other : (v : TokenValue) → (kind_of v ≡ 4 → ⊥) → path_in v ≡ None
 path_other (identifier b) h = refl
 path_other (number b) h = refl
@@ -179,21 +171,13 @@ list_bad vs cl e = ap (keep_if (λ ps. leb (length ps) 128)) e
 -- ---- the paths, each behind no key
 
 module _ (q : List ℕ) (paths : List Keys) where
-  rests_append : (d : ℕ) (a b : List ℕ) → rests q paths d (a ++ b) ≡ rests q paths d a ++ rests q paths d b
-  rests_append d [] b = refl
-  rests_append d (p ∷ a) b = ap (λ (l : List Path). rest_at q paths d p ∷ l) (rests_append d a b)
-
-  pub rests_length : (d : ℕ) (a : List ℕ) → length (rests q paths d a) ≡ length a
-  rests_length d [] = refl
-  rests_length d (p ∷ a) = ap suc (rests_length d a)
-
   rests_below : (n : ℕ) → n ≤ length paths → rests q paths 0 (below n) ≡ wholes q (take n paths)
   rests_below zero h = refl
   rests_below (suc n) h =
       let z : many paths n - 0 ≡ many paths n = omega arith in
-      rests_append 0 (below n) (n ∷ [])
+      map-append (rest_at q paths 0) (below n) (n ∷ [])
       ∙ ap₂ (λ (l : List Path) (r : Path). l ++ (r ∷ [])) (rests_below n (omega arith)) (ap (keys_from q (get_or paths n no_keys).places 0) z)
-      ∙ sym (ap (wholes q) (take-suc paths n no_keys (omega arith)) ∙ wholes_append q (take n paths) (get_or paths n no_keys ∷ []))
+      ∙ sym (ap (wholes q) (take-suc paths n no_keys (omega arith)) ∙ map-append (whole q) (take n paths) (get_or paths n no_keys ∷ []))
 
   pub rests_all : rests q paths 0 (below (length paths)) ≡ wholes q paths
   rests_all = rests_below (length paths) (omega arith) ∙ ap (wholes q) (take_all (length paths) paths (omega arith))

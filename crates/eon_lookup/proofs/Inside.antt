@@ -1,6 +1,10 @@
 -- "each map that a proper front of some path reaches": what Steps calls inside a front is a key or a value of a map among the values that the
 -- front reaches, which are those of `reached`.
-use Rattle.std.proofs.Common.{◌≡◌, refl, sym, ◌∙◌, ap, ap₂, Bool, true, false, ◌&&◌, ◌||◌, List, [], ◌∷◌, ◌++◌, ℕ, suc, ◌+◌, length}
+use Rattle.std.proofs.Common.{◌≡◌, refl, ◌∙◌, ap, ap₂, Bool, true, false, ◌&&◌, ◌||◌, List, [], ◌∷◌, ◌++◌, map, ℕ, suc, ◌+◌, length}
+use Rattle.std.proofs.Math.Bool.{or-false}
+use Rattle.std.specs.List.{list_any}
+use Rattle.std.proofs.lemmas.List.{map-append}
+use Rattle.std.proofs.lemmas.List.Folds.{list_any-append}
 use Rattle.eon_spec.specs.Tree.{TokenTree, TokenValue, KeyValues, tree, identifier, number, quoted_string, list_of, map_of, variant_of, no_pairs, pair}
 use Rattle.eon_spec.specs.Lookup.{Key, Path, key_of, is_key, count, only, reached, reached_at, reached_in}
 use Rattle.eon_lookup.proofs.Steps.{is_member, inside, inside_at, inside_in}
@@ -34,12 +38,7 @@ unfoldable mutual
 -- ---- their numbers are those reached
 
 abbrev pub numbers_of : List Numbered → List ℕ
-numbers_of [] = []
-numbers_of (v ∷ vs) = v.0 ∷ numbers_of vs
-
-numbers_append : (a b : List Numbered) → numbers_of (a ++ b) ≡ numbers_of a ++ numbers_of b
-numbers_append [] b = refl
-numbers_append (v ∷ a) b = ap (λ (l : List ℕ). v.0 ∷ l) (numbers_append a b)
+numbers_of = map (λ v. v.0)
 
 numbers_if : (b : Bool) (vs : List Numbered) → numbers_of (elim b [ true ↦ vs | false ↦ [] ]) ≡ elim b [ true ↦ numbers_of vs | false ↦ [] ]
 numbers_if true vs = refl
@@ -67,7 +66,7 @@ mutual
   values_in_lem : (kvs : KeyValues) (n : ℕ) (k : Key) (ks : Path) → numbers_of (values_in n kvs k ks) ≡ reached_in n kvs k ks
   values_in_lem no_pairs n k ks = refl
   values_in_lem (pair key v kvs) n k ks =
-      numbers_append (elim (is_key k (key_of key)) [ true ↦ values (n + count key) v ks | false ↦ [] ]) (values_in (n + count key + count v) kvs k ks)
+      map-append (λ v. v.0) (elim (is_key k (key_of key)) [ true ↦ values (n + count key) v ks | false ↦ [] ]) (values_in (n + count key + count v) kvs k ks)
       ∙ ap₂ ◌++◌
       (numbers_if (is_key k (key_of key)) (values (n + count key) v ks) ∙ ap (λ (l : List ℕ). elim (is_key k (key_of key)) [ true ↦ l | false ↦ [] ]) (values_reached v (n + count key) ks))
       (values_in_lem kvs (n + count key + count v) k ks)
@@ -83,16 +82,7 @@ member_of j n (map_of kvs cl) = is_member j (suc n) kvs
 member_of j n (variant_of name vs cl) = false
 
 abbrev pub member_of_some : ℕ → List Numbered → Bool
-member_of_some j [] = false
-member_of_some j (v ∷ vs) = member_of j v.0 v.1 || member_of_some j vs
-
-some_append : (j : ℕ) (a b : List Numbered) → member_of_some j (a ++ b) ≡ member_of_some j a || member_of_some j b
-some_append j [] b = refl
-some_append j (v ∷ a) b = ap (λ (x : Bool). member_of j v.0 v.1 || x) (some_append j a b) ∙ sym (assoc (member_of j v.0 v.1) (member_of_some j a) (member_of_some j b))
-  where
-    assoc : (x y z : Bool) → (x || y) || z ≡ x || (y || z)
-    assoc true y z = refl
-    assoc false y z = refl
+member_of_some j = list_any (λ v. member_of j v.0 v.1)
 
 some_if : (j : ℕ) (b : Bool) (vs : List Numbered) → member_of_some j (elim b [ true ↦ vs | false ↦ [] ]) ≡ b && member_of_some j vs
 some_if j true vs = refl
@@ -101,10 +91,6 @@ some_if j false vs = refl
 some_alone : (j n : ℕ) (v : TokenValue) (f : Path) → member_of j n v ≡ false → member_of_some j (alone n v f) ≡ false
 some_alone j n v [] e = ap (λ (x : Bool). x || false) e
 some_alone j n v (k ∷ f) e = refl
-
-or_no : (b : Bool) → b || false ≡ b
-or_no true = refl
-or_no false = refl
 
 mutual
   unfolding values inside
@@ -117,14 +103,14 @@ mutual
   inside_at_lem (number b) j n f = some_alone j n (number b) f refl
   inside_at_lem (quoted_string b) j n f = some_alone j n (quoted_string b) f refl
   inside_at_lem (list_of vs cl) j n f = some_alone j n (list_of vs cl) f refl
-  inside_at_lem (map_of kvs cl) j n [] = or_no (is_member j (suc n) kvs)
+  inside_at_lem (map_of kvs cl) j n [] = or-false (is_member j (suc n) kvs)
   inside_at_lem (map_of kvs cl) j n (k ∷ f) = inside_in_lem kvs j (suc n) k f
   inside_at_lem (variant_of name vs cl) j n f = some_alone j n (variant_of name vs cl) f refl
 
   inside_in_lem : (kvs : KeyValues) (j n : ℕ) (k : Key) (f : Path) → member_of_some j (values_in n kvs k f) ≡ inside_in j n kvs k f
   inside_in_lem no_pairs j n k f = refl
   inside_in_lem (pair key v kvs) j n k f =
-      some_append j (elim (is_key k (key_of key)) [ true ↦ values (n + count key) v f | false ↦ [] ]) (values_in (n + count key + count v) kvs k f)
+      list_any-append (λ v. member_of j v.0 v.1) (elim (is_key k (key_of key)) [ true ↦ values (n + count key) v f | false ↦ [] ]) (values_in (n + count key + count v) kvs k f)
       ∙ ap₂ ◌||◌
       (some_if j (is_key k (key_of key)) (values (n + count key) v f) ∙ ap (λ (x : Bool). is_key k (key_of key) && x) (inside_reached v j (n + count key) f))
       (inside_in_lem kvs j (n + count key + count v) k f)

@@ -3,22 +3,20 @@ use Rattle.std.proofs.Common.{Option, None, Some, ◌≡◌, refl, sym, ap, ap�
 use Rattle.std.proofs.Math.Dec.{eqb-suc-zero}
 use Rattle.std.proofs.Math.Decide.{dec_lt}
 use Rattle.eon_spec.specs.Base.{elem}
-use Rattle.eon_laws.proofs.Facts.{clash, eq_of, elem_append}
+use Rattle.eon_laws.proofs.Facts.{clash, eq_of, eqb_same, elem_append, or_left, or_right}
 use Rattle.eon_lookup.specs.Keys.{below}
-use Rattle.eon_lookup.specs.Live.{answer_of, unless, answered, Gains, among, keep}
+use Rattle.std.specs.Option.{option_or}
+use Rattle.std.specs.List.{filter}
+use Rattle.eon_lookup.specs.Live.{answer_of, answered, Gains, among}
 
 -- ---- members
 
-pub or_yes : (b : Bool) → b || true ≡ true
-or_yes true = refl
-or_yes false = refl
-
 pub elem_at : (l : List ℕ) (i : ℕ) → i < length l → elem (get_or l i 0) l ≡ true
 elem_at [] i h = absurd (omega arith)
-elem_at (x ∷ l) zero h = ap (λ (b : Bool). b || elem x l) (eq-eqb x x refl)
-elem_at (x ∷ l) (suc i) h = ap (λ (b : Bool). eqb (get_or l i 0) x || b) (elem_at l i (omega arith)) ∙ or_yes (eqb (get_or l i 0) x)
+elem_at (x ∷ l) zero h = or_left (eqb x x) (elem x l) (eqb_same x)
+elem_at (x ∷ l) (suc i) h = or_right (eqb (get_or l i 0) x) (elem (get_or l i 0) l) (elem_at l i (omega arith))
 
-pub elem_keep : (f : ℕ → Bool) (l : List ℕ) (p : ℕ) → elem p (keep f l) ≡ elem p l && f p
+pub elem_keep : (f : ℕ → Bool) (l : List ℕ) (p : ℕ) → elem p (filter f l) ≡ elem p l && f p
 elem_keep f [] p = refl
 elem_keep f (x ∷ l) p = go (f x) refl (eqb p x) refl (elem_keep f l p)
   where
@@ -26,19 +24,11 @@ elem_keep f (x ∷ l) p = go (f x) refl (eqb p x) refl (elem_keep f l p)
     off true = refl
     off false = refl
 
-    go : (a : Bool) → f x ≡ a → (b : Bool) → eqb p x ≡ b → elem p (keep f l) ≡ elem p l && f p → elem p (cond (f x) (x ∷ keep f l) (keep f l)) ≡ (eqb p x || elem p l) && f p
+    go : (a : Bool) → f x ≡ a → (b : Bool) → eqb p x ≡ b → elem p (filter f l) ≡ elem p l && f p → elem p (cond (f x) (x ∷ filter f l) (filter f l)) ≡ (eqb p x || elem p l) && f p
     go true e true g h = rw (e, g) (sym (ap f (eq_of p x g) ∙ e))
     go true e false g h = rw (e, g) h
     go false e true g h = rw (e, g) (h ∙ ap (λ (b : Bool). elem p l && b) (ap f (eq_of p x g) ∙ e) ∙ sym (off (elem p l)) ∙ sym (ap f (eq_of p x g) ∙ e))
     go false e false g h = rw (e, g) h
-
-pub keep_append : (f : ℕ → Bool) (a b : List ℕ) → keep f (a ++ b) ≡ keep f a ++ keep f b
-keep_append f [] b = refl
-keep_append f (x ∷ a) b = go (f x) (keep_append f a b)
-  where
-    go : (c : Bool) → keep f (a ++ b) ≡ keep f a ++ keep f b → cond c (x ∷ keep f (a ++ b)) (keep f (a ++ b)) ≡ cond c (x ∷ keep f a) (keep f a) ++ keep f b
-    go true h = ap (λ (l : List ℕ). x ∷ l) h
-    go false h = h
 
 pub below_length : (n : ℕ) → length (below n) ≡ n
 below_length zero = refl
@@ -59,8 +49,8 @@ all_below zero p h = absurd (omega arith)
 all_below (suc n) p h = elem_append p (below n) (n ∷ []) ∙ go (dec_lt p n) (all_below n p)
   where
     go : Dec (p < n) → (p < n → elem p (below n) ≡ true) → elem p (below n) || (eqb p n || false) ≡ true
-    go (yes d) f = ap (λ (b : Bool). b || (eqb p n || false)) (f d)
-    go (no d) f = ap (λ (b : Bool). elem p (below n) || (b || false)) (eq-eqb p n (omega arith)) ∙ or_yes (elem p (below n))
+    go (yes d) f = or_left (elem p (below n)) (eqb p n || false) (f d)
+    go (no d) f = or_right (elem p (below n)) (eqb p n || false) (or_left (eqb p n) false (eq-eqb p n (omega arith)))
 
 -- numbers in their places
 pub numbers_below : (l : List ℕ) (n : ℕ) → n ≤ length l → ((i : ℕ) → i < length l → get_or l i 0 ≡ i) → take n l ≡ below n
@@ -83,27 +73,27 @@ not_empty (x ∷ l) k e f = subst (λ (m : List ℕ). 0 < length m) e (omega ari
 
 -- ---- answers
 
-pub unless_assoc : (a b c : Option ℕ) → unless (unless a b) c ≡ unless a (unless b c)
-unless_assoc None b c = refl
-unless_assoc (Some a) b c = refl
+pub option_or_assoc : (a b c : Option ℕ) → option_or (option_or a b) c ≡ option_or a (option_or b c)
+option_or_assoc None b c = refl
+option_or_assoc (Some a) b c = refl
 
-pub unless_none : (a : Option ℕ) → unless a None ≡ a
-unless_none None = refl
-unless_none (Some a) = refl
+pub option_or_none : (a : Option ℕ) → option_or a None ≡ a
+option_or_none None = refl
+option_or_none (Some a) = refl
 
-unless_twice : (a : Option ℕ) → unless a a ≡ a
-unless_twice None = refl
-unless_twice (Some a) = refl
+option_or_twice : (a : Option ℕ) → option_or a a ≡ a
+option_or_twice None = refl
+option_or_twice (Some a) = refl
 
 pub gains_nothing : {f : ℕ → Option ℕ} {a : List ℕ} → ((p : ℕ) → f p ≡ None) → Gains f a a
-gains_nothing {f} {a} h = record { has = λ p. sym (ap (unless (answer_of (get_or a p 0))) (h p) ∙ unless_none (answer_of (get_or a p 0))) }
+gains_nothing {f} {a} h = record { has = λ p. sym (ap (option_or (answer_of (get_or a p 0))) (h p) ∙ option_or_none (answer_of (get_or a p 0))) }
 
-pub gains_then : {f g h : ℕ → Option ℕ} {a b c : List ℕ} → Gains f a b → Gains g b c → ((p : ℕ) → unless (f p) (g p) ≡ h p) → Gains h a c
+pub gains_then : {f g h : ℕ → Option ℕ} {a b c : List ℕ} → Gains f a b → Gains g b c → ((p : ℕ) → option_or (f p) (g p) ≡ h p) → Gains h a c
 gains_then {f} {g} {h} {a} {b} {c} x y e =
-    record { has = λ p. y.has p ∙ ap (λ (z : Option ℕ). unless z (g p)) (x.has p) ∙ unless_assoc (answer_of (get_or a p 0)) (f p) (g p) ∙ ap (unless (answer_of (get_or a p 0))) (e p) }
+    record { has = λ p. y.has p ∙ ap (λ (z : Option ℕ). option_or z (g p)) (x.has p) ∙ option_or_assoc (answer_of (get_or a p 0)) (f p) (g p) ∙ ap (option_or (answer_of (get_or a p 0))) (e p) }
 
 pub gains_as : {f g : ℕ → Option ℕ} {a b : List ℕ} → Gains f a b → ((p : ℕ) → f p ≡ g p) → Gains g a b
-gains_as {f} {g} {a} x e = record { has = λ p. x.has p ∙ ap (unless (answer_of (get_or a p 0))) (e p) }
+gains_as {f} {g} {a} x e = record { has = λ p. x.has p ∙ ap (option_or (answer_of (get_or a p 0))) (e p) }
 
 -- one path is answered
 pub gave : (a : List ℕ) (p w : ℕ) → p < length a → w < 4294967295 → Gains (λ x. cond (eqb x p) (Some w) None) a (answered a p w)
@@ -116,22 +106,22 @@ gave a p w h l = record { has = λ x. gave_at x (eqb (get_or a p 0) 4294967295) 
     other x e f = clash (eq-eqb x p f) e
 
     gave_at : (x : ℕ) (b : Bool) → eqb (get_or a p 0) 4294967295 ≡ b → (c : Bool) → eqb x p ≡ c
-        → answer_of (get_or (cond (eqb (get_or a p 0) 4294967295) (set a p w) a) x 0) ≡ unless (answer_of (get_or a x 0)) (cond (eqb x p) (Some w) None)
+        → answer_of (get_or (cond (eqb (get_or a p 0) 4294967295) (set a p w) a) x 0) ≡ option_or (answer_of (get_or a x 0)) (cond (eqb x p) (Some w) None)
     gave_at x true e true f =
         let z : x ≡ p = eq_of x p f in
-        rw (e, f, z) (ap answer_of (get_or-set_same a p w 0 h) ∙ is ∙ sym (ap (λ (b : Bool). unless (cond b None (Some (get_or a p 0))) (Some w)) e))
-    gave_at x true e false f = rw (e, f) (ap answer_of (get_or-set_other a p x w 0 (other x f)) ∙ sym (unless_none (answer_of (get_or a x 0))))
+        rw (e, f, z) (ap answer_of (get_or-set_same a p w 0 h) ∙ is ∙ sym (ap (λ (b : Bool). option_or (cond b None (Some (get_or a p 0))) (Some w)) e))
+    gave_at x true e false f = rw (e, f) (ap answer_of (get_or-set_other a p x w 0 (other x f)) ∙ sym (option_or_none (answer_of (get_or a x 0))))
     gave_at x false e true f =
         let z : x ≡ p = eq_of x p f in
         rw (e, f, z) (rw e)
-    gave_at x false e false f = rw (e, f) (sym (unless_none (answer_of (get_or a x 0))))
+    gave_at x false e false f = rw (e, f) (sym (option_or_none (answer_of (get_or a x 0))))
 
 -- one more path is looked at
-pub among_more : (l : List ℕ) (p : ℕ) (f : ℕ → Option ℕ) (x : ℕ) → unless (among l f x) (cond (eqb x p) (f p) None) ≡ among (l ++ (p ∷ [])) f x
+pub among_more : (l : List ℕ) (p : ℕ) (f : ℕ → Option ℕ) (x : ℕ) → option_or (among l f x) (cond (eqb x p) (f p) None) ≡ among (l ++ (p ∷ [])) f x
 among_more l p f x = go (elem x l) refl (eqb x p) refl ∙ sym (ap (λ (b : Bool). cond b (f x) None) (elem_append x l (p ∷ [])))
   where
-    go : (a : Bool) → elem x l ≡ a → (b : Bool) → eqb x p ≡ b → unless (cond (elem x l) (f x) None) (cond (eqb x p) (f p) None) ≡ cond (elem x l || (eqb x p || false)) (f x) None
-    go true e true g = rw (e, g) (ap (unless (f x)) (ap f (sym (eq_of x p g))) ∙ unless_twice (f x))
-    go true e false g = rw (e, g) (unless_none (f x))
+    go : (a : Bool) → elem x l ≡ a → (b : Bool) → eqb x p ≡ b → option_or (cond (elem x l) (f x) None) (cond (eqb x p) (f p) None) ≡ cond (elem x l || (eqb x p || false)) (f x) None
+    go true e true g = rw (e, g) (ap (option_or (f x)) (ap f (sym (eq_of x p g))) ∙ option_or_twice (f x))
+    go true e false g = rw (e, g) (option_or_none (f x))
     go false e true g = rw (e, g) (ap f (sym (eq_of x p g)))
     go false e false g = rw (e, g)

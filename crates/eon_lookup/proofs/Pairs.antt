@@ -1,19 +1,21 @@
 -- The walk through a map's pairs: what each pair gives the paths, and the steps it takes.
-use Rattle.std.proofs.Common.{Option, None, Some, ◌≡◌, refl, sym, ap, ap₂, ◌∙◌, Bool, true, false, ◌&&◌, ◌||◌, not, cond, List, [], ◌∷◌, ◌++◌, ℕ, suc, ◌+◌, ◌-◌, ◌≤◌, ◌<◌, arith, length, get_or, ltb, eqb, eq-eqb}
+use Rattle.std.proofs.Common.{Option, None, Some, ◌≡◌, refl, sym, ap, ap₂, ◌∙◌, Bool, true, false, ◌&&◌, not, cond, List, [], ◌∷◌, ◌++◌, ℕ, suc, ◌+◌, ◌-◌, ◌≤◌, ◌<◌, arith, length, get_or, ltb, eqb}
 use Rattle.eon_spec.specs.Base.{elem}
 use Rattle.eon_spec.specs.Tree.{Slice, TokenTree, TokenValue, KeyValues, tree, identifier, number, quoted_string, list_of, map_of, variant_of, no_pairs, pair}
 use Rattle.eon_spec.specs.Layout.{prefix_of}
 use Rattle.eon_spec.specs.Calls.{record_text}
 use Rattle.eon_spec.specs.Lookup.{Key, Path, key_in, key_of, is_key, count, reached, reached_at, reached_in, onward, some_left, steps, steps_at, steps_in}
-use Rattle.eon_laws.proofs.Facts.{and_left, and_right, lt_of, le_of_not}
+use Rattle.eon_laws.proofs.Facts.{and_left, and_right, or_left, or_right, eqb_same, lt_of, le_of_not}
 use Rattle.eon_table.specs.Words.{record_of, AfterPrefix}
 use Rattle.eon_table.specs.TreeAt.{kind_of, value_of, TreeAt, ValueAt}
 use Rattle.eon_table.proofs.Walk.{value_kind, tree_value}
 use Rattle.eon_table.proofs.Here.{leaf_text}
 use Rattle.eon_lookup.specs.declared.paths.Keys.{Keys}
 use Rattle.eon_lookup.specs.Keys.{no_keys, many, key_kind, key_here, key_at, keys_from, rest_at, rests, GoesOn, Going}
-use Rattle.eon_lookup.specs.Live.{first_some, unless, Gains, among, keep, first_in, matches, ends_at, goes_on, Walked}
-use Rattle.eon_lookup.proofs.Lists.{neither, or_yes, elem_keep, gains_nothing}
+use Rattle.std.specs.Option.{option_or}
+use Rattle.std.specs.List.{filter}
+use Rattle.eon_lookup.specs.Live.{first_some, Gains, among, first_in, matches, ends_at, goes_on, Walked}
+use Rattle.eon_lookup.proofs.Lists.{neither, elem_keep, gains_nothing}
 
 -- ---- the key of a tree, by its record
 
@@ -125,7 +127,7 @@ pub reached_tree : (n : ℕ) (t : TokenTree) (ks : Path) → reached n t ks ≡ 
 unfolding reached
 reached_tree n (tree sp p v x) ks = refl
 
-first_append : (a b : List ℕ) → first_some (a ++ b) ≡ unless (first_some a) (first_some b)
+first_append : (a b : List ℕ) → first_some (a ++ b) ≡ option_or (first_some a) (first_some b)
 first_append [] b = refl
 first_append (x ∷ a) b = refl
 
@@ -136,17 +138,17 @@ no_first n (k ∷ ks) = refl
 
 -- a pair that a path's first key names, or not, and those behind it
 first_pair : (n w : ℕ) (key val : TokenTree) (kvs : KeyValues) (k : Key) (ks : Path) → w ≡ n + count key + length (prefix_of val)
-    → first_in n (pair key val kvs) (k ∷ ks) ≡ unless (cond (is_key k (key_of key)) (first_some (reached_at w (value_of val) ks)) None) (first_in (n + count key + count val) kvs (k ∷ ks))
+    → first_in n (pair key val kvs) (k ∷ ks) ≡ option_or (cond (is_key k (key_of key)) (first_some (reached_at w (value_of val) ks)) None) (first_in (n + count key + count val) kvs (k ∷ ks))
 unfolding reached
 first_pair n w key val kvs k ks e = go (is_key k (key_of key))
   where
     rest : List ℕ
     rest = reached_in (n + count key + count val) kvs k ks
 
-    go : (b : Bool) → first_some (elim b [ true ↦ reached (n + count key) val ks | false ↦ [] ] ++ rest) ≡ unless (cond b (first_some (reached_at w (value_of val) ks)) None) (first_some rest)
+    go : (b : Bool) → first_some (elim b [ true ↦ reached (n + count key) val ks | false ↦ [] ] ++ rest) ≡ option_or (cond b (first_some (reached_at w (value_of val) ks)) None) (first_some rest)
     go true =
         first_append (reached (n + count key) val ks) rest
-        ∙ ap (λ (l : List ℕ). unless (first_some l) (first_some rest)) (reached_tree (n + count key) val ks ∙ ap (λ (m : ℕ). reached_at m (value_of val) ks) (sym e))
+        ∙ ap (λ (l : List ℕ). option_or (first_some l) (first_some rest)) (reached_tree (n + count key) val ks ∙ ap (λ (m : ℕ). reached_at m (value_of val) ks) (sym e))
     go false = refl
 
 -- ---- the paths behind d keys
@@ -171,10 +173,10 @@ module _ (q : List ℕ) (paths : List Keys) where
       ap (keys_from q (get_or paths p no_keys).places d) e
 
   going_tail : (d p : ℕ) (live : List ℕ) → Going paths d (p ∷ live) → Going paths d live
-  going_tail d p live g x e = g x (ap (λ (b : Bool). eqb x p || b) e ∙ or_yes (eqb x p))
+  going_tail d p live g x e = g x (or_right (eqb x p) (elem x live) e)
 
   going_head : (d p : ℕ) (live : List ℕ) → Going paths d (p ∷ live) → GoesOn paths d p
-  going_head d p live g = g p (ap (λ (b : Bool). b || elem p live) (eq-eqb p p refl))
+  going_head d p live g = g p (or_left (eqb p p) (elem p live) (eqb_same p))
 
   pub some_rests : (d : ℕ) (live : List ℕ) → Going paths d live → 0 < length live → some_left (all d live) ≡ true
   some_rests d [] g h = absurd (omega arith)
@@ -184,13 +186,13 @@ module _ (q : List ℕ) (paths : List Keys) where
     abbrev on : ℕ → Bool
     on = goes_on q paths d key
 
-    going_keep : (live : List ℕ) → Going paths d live → Going paths (d + 1) (keep on live)
+    going_keep : (live : List ℕ) → Going paths d live → Going paths (d + 1) (filter on live)
     going_keep live g p e =
         let a : elem p live && on p ≡ true = sym (elem_keep on live p) ∙ e in
         let h : GoesOn paths d p = g p (and_left (elem p live) (on p) a) in
         record { small = h.small; there = h.there; more = lt_of (d + 1) (many paths p) (and_right (matches q paths d key p) (ltb (d + 1) (many paths p)) (and_right (elem p live) (on p) a)); few = h.few }
 
-    alive_onward : (live : List ℕ) → Going paths d live → alive (onward key (all d live)) ≡ all (d + 1) (keep on live)
+    alive_onward : (live : List ℕ) → Going paths d live → alive (onward key (all d live)) ≡ all (d + 1) (filter on live)
     alive_onward [] g = refl
     alive_onward (p ∷ live) g =
         ap (λ (r : Path). alive (onward key (r ∷ all d live))) (rest_step d p (going_head d p live g).more)
@@ -199,8 +201,8 @@ module _ (q : List ℕ) (paths : List Keys) where
         others : List Path
         others = onward key (all d live)
 
-        go : (a b : Bool) → ltb (d + 1) (many paths p) ≡ b → alive (onward key (all d live)) ≡ all (d + 1) (keep on live)
-            → alive (cond a (rest (d + 1) p ∷ onward key (all d live)) (onward key (all d live))) ≡ all (d + 1) (cond (a && b) (p ∷ keep on live) (keep on live))
+        go : (a b : Bool) → ltb (d + 1) (many paths p) ≡ b → alive (onward key (all d live)) ≡ all (d + 1) (filter on live)
+            → alive (cond a (rest (d + 1) p ∷ onward key (all d live)) (onward key (all d live))) ≡ all (d + 1) (cond (a && b) (p ∷ filter on live) (filter on live))
         go true true f h =
             let e = rest_step (d + 1) p (lt_of (d + 1) (many paths p) f) in
             ap (λ (r : Path). alive (r ∷ onward key (all d live))) e ∙ ap₂ (λ (r : Path) (l : List Path). r ∷ l) (sym e) h
@@ -208,16 +210,16 @@ module _ (q : List ℕ) (paths : List Keys) where
         go false b f h = h
 
     module _ (live : List ℕ) (g : Going paths d live) where
-      pub on_going : Going paths (d + 1) (keep on live)
+      pub on_going : Going paths (d + 1) (filter on live)
       on_going = going_keep live g
 
       -- what the value behind the key gives and costs: record w, from its answers on to others
       pub record Inner (w : ℕ) (v : TokenValue) (old answers : List ℕ) (r : ℕ) : Type 0 where
         pub steps : r ≡ steps_at (onward key (all d live)) v
         pub size : length answers ≡ 128
-        pub gains : Gains (among (keep on live) (λ p. inside_first w v (rest (d + 1) p))) old answers
+        pub gains : Gains (among (filter on live) (λ p. inside_first w v (rest (d + 1) p))) old answers
 
-      pub inner_none : (w : ℕ) (v : TokenValue) (a : List ℕ) → length a ≡ 128 → keep on live ≡ [] → Inner w v a a 0
+      pub inner_none : (w : ℕ) (v : TokenValue) (a : List ℕ) → length a ≡ 128 → filter on live ≡ [] → Inner w v a a 0
       inner_none w v a z e =
           record {
             steps = sym (steps_dead (onward key (all d live)) v (sym (some_alive (onward key (all d live))) ∙ ap some_left (alive_onward live g ∙ ap (all (d + 1)) e)));
@@ -230,25 +232,25 @@ module _ (q : List ℕ) (paths : List Keys) where
           record {
             steps = sym (steps_other (onward key (all d live)) v e);
             size = z;
-            gains = gains_nothing (λ p. ap (λ (o : Option ℕ). cond (elem p (keep on live)) o None) (first_other w v (rest (d + 1) p) e) ∙ neither (elem p (keep on live)));
+            gains = gains_nothing (λ p. ap (λ (o : Option ℕ). cond (elem p (filter on live)) o None) (first_other w v (rest (d + 1) p) e) ∙ neither (elem p (filter on live)));
           }
 
-      pub inner_map : (w : ℕ) (kvs : KeyValues) (cl : List Slice) (old answers : List ℕ) (r : ℕ) → 0 < length (keep on live)
-          → Walked q paths (d + 1) (keep on live) (suc w) kvs old answers r → Inner w (map_of kvs cl) old answers r
+      pub inner_map : (w : ℕ) (kvs : KeyValues) (cl : List Slice) (old answers : List ℕ) (r : ℕ) → 0 < length (filter on live)
+          → Walked q paths (d + 1) (filter on live) (suc w) kvs old answers r → Inner w (map_of kvs cl) old answers r
       inner_map w kvs cl old answers r h t =
           let ps = onward key (all d live) in
           record {
-            steps = t.steps ∙ ap (λ (l : List Path). steps_in l kvs) (sym (alive_onward live g)) ∙ steps_alive kvs ps ∙ sym (steps_map ps kvs cl (sym (some_alive ps) ∙ ap some_left (alive_onward live g) ∙ some_rests (d + 1) (keep on live) (going_keep live g) h));
+            steps = t.steps ∙ ap (λ (l : List Path). steps_in l kvs) (sym (alive_onward live g)) ∙ steps_alive kvs ps ∙ sym (steps_map ps kvs cl (sym (some_alive ps) ∙ ap some_left (alive_onward live g) ∙ some_rests (d + 1) (filter on live) (going_keep live g) h));
             size = t.size;
             gains = t.gains;
           }
 
       -- a pair gives what its value gives, and then what is behind it
       pub pair_gives : (n w : ℕ) (kt val : TokenTree) (kvs : KeyValues) → key_of kt ≡ key → w ≡ n + count kt + length (prefix_of val) → (p : ℕ)
-          → unless (unless (among live (ends_at q paths d key w) p) (among (keep on live) (λ x. inside_first w (value_of val) (rest (d + 1) x)) p)) (among live (λ x. first_in (n + count kt + count val) kvs (rest d x)) p)
+          → option_or (option_or (among live (ends_at q paths d key w) p) (among (filter on live) (λ x. inside_first w (value_of val) (rest (d + 1) x)) p)) (among live (λ x. first_in (n + count kt + count val) kvs (rest d x)) p)
           ≡ among live (λ x. first_in n (pair kt val kvs) (rest d x)) p
       pair_gives n w kt val kvs ke we p =
-          ap (λ (b : Bool). unless (unless (among live (ends_at q paths d key w) p) (cond b (inside_first w (value_of val) (rest (d + 1) p)) None)) (among live (λ x. first_in (n + count kt + count val) kvs (rest d x)) p)) (elem_keep on live p)
+          ap (λ (b : Bool). option_or (option_or (among live (ends_at q paths d key w) p) (cond b (inside_first w (value_of val) (rest (d + 1) p)) None)) (among live (λ x. first_in (n + count kt + count val) kvs (rest d x)) p)) (elem_keep on live p)
           ∙ go (elem p live) refl
         where
           k : Key
@@ -261,23 +263,23 @@ module _ (q : List ℕ) (paths : List Keys) where
           here = inside_first w (value_of val) (rest (d + 1) p)
 
           by : (a b : Bool) → ltb (d + 1) (many paths p) ≡ b
-              → unless (unless (cond (a && not b) (Some w) None) (cond (a && b) (inside_first w (value_of val) (rest (d + 1) p)) None)) (first_in (n + count kt + count val) kvs (rest d p))
-              ≡ unless (cond a (first_some (reached_at w (value_of val) (rest (d + 1) p))) None) (first_in (n + count kt + count val) kvs (rest d p))
+              → option_or (option_or (cond (a && not b) (Some w) None) (cond (a && b) (inside_first w (value_of val) (rest (d + 1) p)) None)) (first_in (n + count kt + count val) kvs (rest d p))
+              ≡ option_or (cond a (first_some (reached_at w (value_of val) (rest (d + 1) p))) None) (first_in (n + count kt + count val) kvs (rest d p))
           by true true f =
               let e = rest_step (d + 1) p (lt_of (d + 1) (many paths p) f) in
-              ap (λ (o : Option ℕ). unless o (first_in (n + count kt + count val) kvs (rest d p)))
+              ap (λ (o : Option ℕ). option_or o (first_in (n + count kt + count val) kvs (rest d p)))
               (ap (inside_first w (value_of val)) e ∙ sym (ap (λ (r : Path). first_some (reached_at w (value_of val) r)) e ∙ first_on w (value_of val) (key_at q paths p (d + 1)) (rest (d + 1 + 1) p)))
           by true false f =
               let e = rest_end (d + 1) p (le_of_not (d + 1) (many paths p) f) in
-              ap (λ (o : Option ℕ). unless o (first_in (n + count kt + count val) kvs (rest d p))) (sym (ap (λ (r : Path). first_some (reached_at w (value_of val) r)) e ∙ first_end w (value_of val)))
+              ap (λ (o : Option ℕ). option_or o (first_in (n + count kt + count val) kvs (rest d p))) (sym (ap (λ (r : Path). first_some (reached_at w (value_of val) r)) e ∙ first_end w (value_of val)))
           by false b f = refl
 
           go : (c : Bool) → elem p live ≡ c
-              → unless (unless (cond (elem p live) (ends_at q paths d key w p) None) (cond (elem p live && on p) (inside_first w (value_of val) (rest (d + 1) p)) None)) (cond (elem p live) (first_in (n + count kt + count val) kvs (rest d p)) None)
+              → option_or (option_or (cond (elem p live) (ends_at q paths d key w p) None) (cond (elem p live && on p) (inside_first w (value_of val) (rest (d + 1) p)) None)) (cond (elem p live) (first_in (n + count kt + count val) kvs (rest d p)) None)
               ≡ cond (elem p live) (first_in n (pair kt val kvs) (rest d p)) None
           go true e =
               let s = rest_step d p (g p e).more in
               rw e (by (matches q paths d key p) (ltb (d + 1) (many paths p)) refl
               ∙ sym (ap (first_in n (pair kt val kvs)) s ∙ first_pair n w kt val kvs (key_at q paths p d) (rest (d + 1) p) we
-              ∙ ap₂ (λ (b : Option Key) (r : Path). unless (cond (is_key (key_at q paths p d) b) (first_some (reached_at w (value_of val) (rest (d + 1) p))) None) (first_in (n + count kt + count val) kvs r)) ke (sym s)))
+              ∙ ap₂ (λ (b : Option Key) (r : Path). option_or (cond (is_key (key_at q paths p d) b) (first_some (reached_at w (value_of val) (rest (d + 1) p))) None) (first_in (n + count kt + count val) kvs r)) ke (sym s)))
           go false e = rw e

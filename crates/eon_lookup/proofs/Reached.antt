@@ -1,11 +1,12 @@
 -- The values that a path reaches: records of the table in its order, each a value's and no comment's.
-use Rattle.std.proofs.Common.{◌≡◌, refl, sym, ◌∙◌, ap, Bool, true, false, ◌&&◌, ◌||◌, List, [], ◌∷◌, ◌++◌, ℕ, suc, ◌+◌, ◌≤◌, ◌<◌, arith, length, length-append, eqb, leb}
+use Rattle.std.proofs.Common.{◌≡◌, refl, sym, ◌∙◌, ap, Bool, true, false, ◌&&◌, ◌||◌, List, [], ◌∷◌, ◌++◌, ℕ, suc, ◌+◌, ◌≤◌, ◌<◌, arith, length, length-append, eqb, leb, ⊎_elim}
+use Rattle.std.proofs.lemmas.Bool.{or_cases}
 use Rattle.eon_spec.specs.Base.{elem}
-use Rattle.eon_spec.specs.Tree.{Span, Slice, TokenTree, TokenValue, KeyValues, tree, identifier, number, quoted_string, list_of, map_of, variant_of, no_pairs, pair}
-use Rattle.eon_spec.specs.Records.{Record, comments, suffix, tree_records, value_records, trees_records, pairs_records}
+use Rattle.eon_spec.specs.Tree.{Span, TokenTree, TokenValue, KeyValues, tree, identifier, number, quoted_string, list_of, map_of, variant_of, no_pairs, pair}
+use Rattle.eon_spec.specs.Records.{Record, comments, suffix, tree_records, value_records, pairs_records}
 use Rattle.eon_spec.specs.Lookup.{Key, Path, key_of, is_key, count, only, reached, reached_at, reached_in}
-use Rattle.eon_laws.proofs.Facts.{clash, and_left, and_right, or_left, or_right, eq_of, eqb_same}
-use Rattle.eon_laws.proofs.Records.{tree_size, value_size, pairs_size, tree_size_lem}
+use Rattle.eon_laws.proofs.Facts.{clash, or_right, eq_of, eqb_same, elem_append}
+use Rattle.eon_laws.proofs.Records.{comments_length, tree_size, value_size, pairs_size, tree_size_lem}
 
 -- ---- in table order
 
@@ -79,20 +80,16 @@ abbrev pub is_value : ℕ → List Record → ℕ → Bool
 is_value n [] m = false
 is_value n (r ∷ rs) m = (eqb m n && leb r.kind 6) || is_value (suc n) rs m
 
-abbrev all : (ℕ → Bool) → List ℕ → Bool
-all f [] = true
-all f (n ∷ ns) = f n && all f ns
+-- each of these numbers passes
+abbrev Each : (ℕ → Bool) → List ℕ → Type 0
+Each f ns = (m : ℕ) → elem m ns ≡ true → f m ≡ true
 
-and_true : (x y : Bool) → x ≡ true → y ≡ true → x && y ≡ true
-and_true x y p q = rw (p, q)
+each_append : (f : ℕ → Bool) (a b : List ℕ) → Each f a → Each f b → Each f (a ++ b)
+each_append f a b h g m e = ⊎_elim (h m) (g m) (or_cases (elem m a) (elem m b) (sym (elem_append m a b) ∙ e))
 
-all_more : (f g : ℕ → Bool) → ((m : ℕ) → f m ≡ true → g m ≡ true) → (ns : List ℕ) → all f ns ≡ true → all g ns ≡ true
-all_more f g h [] e = refl
-all_more f g h (n ∷ ns) e = and_true (g n) (all g ns) (h n (and_left (f n) (all f ns) e)) (all_more f g h ns (and_right (f n) (all f ns) e))
-
-all_append : (f : ℕ → Bool) (a b : List ℕ) → all f a ≡ true → all f b ≡ true → all f (a ++ b) ≡ true
-all_append f [] b h g = g
-all_append f (n ∷ a) b h g = and_true (f n) (all f (a ++ b)) (and_left (f n) (all f a) h) (all_append f a b (and_right (f n) (all f a) h) g)
+each_if : (f : ℕ → Bool) (b : Bool) (ns : List ℕ) → Each f ns → Each f (elim b [ true ↦ ns | false ↦ [] ])
+each_if f true ns h m e = h m e
+each_if f false ns h m e = clash e refl
 
 -- records behind, and records before
 value_left : (n : ℕ) (a b : List Record) (m : ℕ) → is_value n a m ≡ true → is_value n (a ++ b) m ≡ true
@@ -109,69 +106,50 @@ value_right n (r ∷ a) b m e =
     let z : n + suc (length a) ≡ suc n + length a = omega arith in
     or_right (eqb m n && leb r.kind 6) (is_value (suc n) (a ++ b) m) (value_right (suc n) a b m (rw z at e))
 
-comments_count : (k : ℕ) (cs : List Slice) → length (comments k cs) ≡ length cs
-comments_count k [] = refl
-comments_count k (c ∷ cs) = ap suc (comments_count k cs)
-
 -- a value's own record
 own_value : (s : Span) (v : TokenValue) (n : ℕ) → is_value n (value_records s v) n ≡ true
 unfolding tree_records
-own_value s (identifier b) n = or_left (eqb n n && true) false (and_true (eqb n n) true (eqb_same n) refl)
-own_value s (number b) n = or_left (eqb n n && true) false (and_true (eqb n n) true (eqb_same n) refl)
-own_value s (quoted_string b) n = or_left (eqb n n && true) false (and_true (eqb n n) true (eqb_same n) refl)
-own_value s (list_of vs cl) n = or_left (eqb n n && true) (is_value (suc n) (trees_records vs ++ comments 9 cl) n) (and_true (eqb n n) true (eqb_same n) refl)
-own_value s (map_of kvs cl) n = or_left (eqb n n && true) (is_value (suc n) (pairs_records kvs ++ comments 9 cl) n) (and_true (eqb n n) true (eqb_same n) refl)
-own_value s (variant_of name vs cl) n = or_left (eqb n n && true) (is_value (suc n) (trees_records vs ++ comments 9 cl) n) (and_true (eqb n n) true (eqb_same n) refl)
+own_value s (identifier b) n = rw (eqb_same n)
+own_value s (number b) n = rw (eqb_same n)
+own_value s (quoted_string b) n = rw (eqb_same n)
+own_value s (list_of vs cl) n = rw (eqb_same n)
+own_value s (map_of kvs cl) n = rw (eqb_same n)
+own_value s (variant_of name vs cl) n = rw (eqb_same n)
 
-only_value : (s : Span) (v : TokenValue) (n : ℕ) (ks : Path) → all (is_value n (value_records s v)) (only n ks) ≡ true
-only_value s v n [] = and_true (is_value n (value_records s v) n) true (own_value s v n) refl
-only_value s v n (k ∷ ks) = refl
+only_value : (s : Span) (v : TokenValue) (n : ℕ) (ks : Path) → Each (is_value n (value_records s v)) (only n ks)
+only_value s v n [] m e = ⊎_elim (λ p. ap (is_value n (value_records s v)) (eq_of m n p) ∙ own_value s v n) (λ z. clash z refl) (or_cases (eqb m n) false e)
+only_value s v n (k ∷ ks) m e = clash e refl
 
 -- two trees in a row
 two : (n : ℕ) (a b : TokenTree) → n + length (tree_records a ++ tree_records b) ≡ n + count a + count b
 two n a b = let l = length-append (tree_records a) (tree_records b) in omega arith
 
-all_if : (f : ℕ → Bool) (b : Bool) (ns : List ℕ) → all f ns ≡ true → all f (elim b [ true ↦ ns | false ↦ [] ]) ≡ true
-all_if f true ns h = h
-all_if f false ns h = refl
-
 mutual
   unfolding reached tree_records
 
-  tree_values : (t : TokenTree) (n : ℕ) (ks : Path) → all (is_value n (tree_records t)) (reached n t ks) ≡ true
-  tree_values (tree s p v x) n ks =
-      all_more (is_value (n + length p) (value_records s v)) (is_value n (comments 7 p ++ value_records s v ++ suffix x))
-      (λ m e. value_left n (comments 7 p ++ value_records s v) (suffix x) m (value_right n (comments 7 p) (value_records s v) m (rw (sym (comments_count 7 p)) at e)))
-      (reached_at (n + length p) v ks) (value_values v s (n + length p) ks)
+  tree_values : (t : TokenTree) (n : ℕ) (ks : Path) → Each (is_value n (tree_records t)) (reached n t ks)
+  tree_values (tree s p v x) n ks m e =
+      value_left n (comments 7 p ++ value_records s v) (suffix x) m
+      (value_right n (comments 7 p) (value_records s v) m (rw (sym (comments_length 7 p)) at (value_values v s (n + length p) ks m e)))
 
-  value_values : (v : TokenValue) (s : Span) (n : ℕ) (ks : Path) → all (is_value n (value_records s v)) (reached_at n v ks) ≡ true
-  value_values (identifier b) s n ks = only_value s (identifier b) n ks
-  value_values (number b) s n ks = only_value s (number b) n ks
-  value_values (quoted_string b) s n ks = only_value s (quoted_string b) n ks
-  value_values (list_of vs cl) s n ks = only_value s (list_of vs cl) n ks
-  value_values (map_of kvs cl) s n [] = only_value s (map_of kvs cl) n []
-  value_values (map_of kvs cl) s n (k ∷ ks) =
-      all_more (is_value (suc n) (pairs_records kvs)) (is_value n (value_records s (map_of kvs cl)))
-      (λ m e. or_right (eqb m n && true) (is_value (suc n) (pairs_records kvs ++ comments 9 cl) m) (value_left (suc n) (pairs_records kvs) (comments 9 cl) m e))
-      (reached_in (suc n) kvs k ks) (pairs_values kvs (suc n) k ks)
-  value_values (variant_of name vs cl) s n ks = only_value s (variant_of name vs cl) n ks
+  value_values : (v : TokenValue) (s : Span) (n : ℕ) (ks : Path) → Each (is_value n (value_records s v)) (reached_at n v ks)
+  value_values (identifier b) s n ks m e = only_value s (identifier b) n ks m e
+  value_values (number b) s n ks m e = only_value s (number b) n ks m e
+  value_values (quoted_string b) s n ks m e = only_value s (quoted_string b) n ks m e
+  value_values (list_of vs cl) s n ks m e = only_value s (list_of vs cl) n ks m e
+  value_values (map_of kvs cl) s n [] m e = only_value s (map_of kvs cl) n [] m e
+  value_values (map_of kvs cl) s n (k ∷ ks) m e =
+      or_right (eqb m n && true) (is_value (suc n) (pairs_records kvs ++ comments 9 cl) m) (value_left (suc n) (pairs_records kvs) (comments 9 cl) m (pairs_values kvs (suc n) k ks m e))
+  value_values (variant_of name vs cl) s n ks m e = only_value s (variant_of name vs cl) n ks m e
 
-  pairs_values : (kvs : KeyValues) (n : ℕ) (k : Key) (ks : Path) → all (is_value n (pairs_records kvs)) (reached_in n kvs k ks) ≡ true
-  pairs_values no_pairs n k ks = refl
-  pairs_values (pair key v kvs) n k ks =
-      let rs : List Record = tree_records key ++ tree_records v ++ pairs_records kvs in
-      all_append (is_value n rs) (elim (is_key k (key_of key)) [ true ↦ reached (n + count key) v ks | false ↦ [] ]) (reached_in (n + count key + count v) kvs k ks)
-      (all_if (is_value n rs) (is_key k (key_of key)) (reached (n + count key) v ks)
-      (all_more (is_value (n + count key) (tree_records v)) (is_value n rs) (λ m e. value_left n (tree_records key ++ tree_records v) (pairs_records kvs) m (value_right n (tree_records key) (tree_records v) m e)) (reached (n + count key) v ks) (tree_values v (n + count key) ks)))
-      (all_more (is_value (n + count key + count v) (pairs_records kvs)) (is_value n rs) (λ m e. value_right n (tree_records key ++ tree_records v) (pairs_records kvs) m (rw (sym (two n key v)) at e)) (reached_in (n + count key + count v) kvs k ks) (pairs_values kvs (n + count key + count v) k ks))
-
-all_elem : (f : ℕ → Bool) (m : ℕ) (ns : List ℕ) → all f ns ≡ true → elem m ns ≡ true → f m ≡ true
-all_elem f m [] h e = clash e refl
-all_elem f m (n ∷ ns) h e = go (eqb m n) refl e (all_elem f m ns (and_right (f n) (all f ns) h))
-  where
-    go : (b : Bool) → eqb m n ≡ b → eqb m n || elem m ns ≡ true → (elem m ns ≡ true → f m ≡ true) → f m ≡ true
-    go true p e rec = ap f (eq_of m n p) ∙ and_left (f n) (all f ns) h
-    go false p e rec = rec (rw p at e)
+  pairs_values : (kvs : KeyValues) (n : ℕ) (k : Key) (ks : Path) → Each (is_value n (pairs_records kvs)) (reached_in n kvs k ks)
+  pairs_values no_pairs n k ks m e = clash e refl
+  pairs_values (pair key v kvs) n k ks m e =
+      each_append (is_value n (tree_records key ++ tree_records v ++ pairs_records kvs)) (elim (is_key k (key_of key)) [ true ↦ reached (n + count key) v ks | false ↦ [] ]) (reached_in (n + count key + count v) kvs k ks)
+      (each_if _ (is_key k (key_of key)) (reached (n + count key) v ks)
+      (λ i h. value_left n (tree_records key ++ tree_records v) (pairs_records kvs) i (value_right n (tree_records key) (tree_records v) i (tree_values v (n + count key) ks i h))))
+      (λ i h. value_right n (tree_records key ++ tree_records v) (pairs_records kvs) i (rw (sym (two n key v)) at (pairs_values kvs (n + count key + count v) k ks i h)))
+      m e
 
 pub reached_value : (t : TokenTree) (ks : Path) (m : ℕ) → elem m (reached 0 t ks) ≡ true → is_value 0 (tree_records t) m ≡ true
-reached_value t ks m e = all_elem (is_value 0 (tree_records t)) m (reached 0 t ks) (tree_values t 0 ks) e
+reached_value t ks = tree_values t 0 ks

@@ -1,5 +1,6 @@
 -- What the walk's answers are as the call hands them back, and the order of the refusals.
 use Rattle.std.proofs.Common.{Option, None, Some, Result, Ok, Err, ◌≡◌, refl, sym, ap, ap₂, ◌∙◌, subst, Bool, true, false, cond, List, [], ◌∷◌, ◌++◌, ℕ, zero, suc, ◌+◌, ◌-◌, ◌≤◌, ◌<◌, arith, length, get_or, replicate, length-append, get_or-append-add, eqb}
+use Rattle.std.proofs.lemmas.List.{length-map}
 use Rattle.std.proofs.Math.ListN.{length-replicate, get_or-append}
 use Rattle.std.proofs.Math.Decide.{dec_lt}
 use Rattle.eon_spec.specs.Base.{elem}
@@ -13,9 +14,9 @@ use Rattle.eon_table.proofs.Finished.{finished_refused}
 use Rattle.eon_parse.specs.Call.{count_of}
 use Rattle.eon_lookup.specs.declared.paths.Keys.{Keys}
 use Rattle.eon_lookup.specs.Keys.{below, rest_at, rests}
-use Rattle.eon_lookup.specs.Live.{first_some, answer_of, unless, among, Looks}
+use Rattle.std.specs.Option.{option_or}
+use Rattle.eon_lookup.specs.Live.{first_some, answer_of, among, Looks}
 use Rattle.eon_lookup.proofs.Lists.{below_length, in_below, all_below}
-use Rattle.eon_lookup.proofs.Forms.{rests_length}
 
 -- ---- a word that is the first of the values reached is some of them
 
@@ -85,7 +86,7 @@ module _ (q : List ℕ) (paths : List Keys) (t : TokenTree) (n : ℕ) (few : n �
   ps = rests q paths 0 (below n)
 
   pub ps_length : length ps ≡ n
-  ps_length = rests_length q paths 0 (below n) ∙ below_length n
+  ps_length = length-map (below n) (rest_at q paths 0) ∙ below_length n
 
   abbrev all : List (List ℕ)
   all = reached_by_each t ps ++ replicate (paths_max - length ps) []
@@ -130,7 +131,7 @@ module _ (q : List ℕ) (paths : List Keys) (t : TokenTree) (n : ℕ) (few : n �
       each p l =
           let z : p < paths_max = omega (arith, many) in
           word_some (get_or all p []) (get_or answers p 0)
-          (h.gains.has p ∙ ap (λ (o : Option ℕ). unless o (among (below n) first p)) (none_at paths_max p z) ∙ sym (all_at p))
+          (h.gains.has p ∙ ap (λ (o : Option ℕ). option_or o (among (below n) first p)) (none_at paths_max p z) ∙ sym (all_at p))
 
 -- ---- a refusal
 

@@ -7,22 +7,10 @@ use Rattle.eon_spec.specs.Records.{tree_records}
 use Rattle.eon_laws.proofs.Facts.{clash, elem_append}
 use Rattle.eon_laws.proofs.Records.{tree_size, value_size, pairs_size, tree_size_lem}
 use Rattle.eon_spec.specs.Lookup.{Key, Path, key_of, is_key, count, onward, some_left, steps, steps_at, steps_in}
+use Rattle.eon_table.proofs.Walk.{value_pos, tree_pos}
 use Rattle.eon_lookup.proofs.Reached.{Rising, rising_down, rising_wider, rising_append, rising_if}
 
 -- ---- no more than the records
-
-pub value_some : (v : TokenValue) → 1 ≤ value_size v
-unfolding tree_size
-value_some (identifier b) = omega arith
-value_some (number b) = omega arith
-value_some (quoted_string b) = omega arith
-value_some (list_of vs cl) = omega arith
-value_some (map_of kvs cl) = omega arith
-value_some (variant_of n vs cl) = omega arith
-
-tree_some : (t : TokenTree) → 1 ≤ tree_size t
-unfolding tree_size
-tree_some (tree s p v x) = omega (arith, value_some v)
 
 either_less : (b : Bool) (m n : ℕ) → m ≤ n → elim b [ true ↦ m | false ↦ 0 ] ≤ n
 either_less true m n h = h
@@ -46,7 +34,7 @@ mutual
 
   pub pairs_steps : (kvs : KeyValues) (ps : List Path) → steps_in ps kvs ≤ pairs_size kvs
   pairs_steps no_pairs ps = omega arith
-  pairs_steps (pair k v kvs) ps = omega (arith, tree_some k, tree_steps v (onward (key_of k) ps), pairs_steps kvs ps)
+  pairs_steps (pair k v kvs) ps = omega (arith, tree_pos k, tree_steps v (onward (key_of k) ps), pairs_steps kvs ps)
 
 -- "They never exceed the event table's record count"
 pub few_steps : (t : TokenTree) (ps : List Path) → steps ps t ≤ length (tree_records t)
@@ -143,7 +131,7 @@ mutual
 
 own_within : (n : ℕ) (t : TokenTree) → (n ≤ own n t) × (own n t < n + tree_size t)
 unfolding tree_size
-own_within n (tree s p v x) = (omega arith, omega (arith, value_some v))
+own_within n (tree s p v x) = (omega arith, omega (arith, value_pos v))
 
 mutual
   unfolding walked tree_size

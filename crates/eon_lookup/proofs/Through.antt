@@ -12,8 +12,10 @@ use Rattle.eon_table.proofs.Walk.{tree_pos, tree_value, tree_head}
 use Rattle.eon_table.proofs.Here.{Entry, entry, no_entry}
 use Rattle.eon_lookup.specs.declared.paths.Keys.{Keys}
 use Rattle.eon_lookup.specs.Keys.{key_here, rest_at, rests, Going}
-use Rattle.eon_lookup.specs.Live.{answer_of, unless, Gains, among, keep, first_in, ends_at, goes_on, KeyMatched, Walked}
-use Rattle.eon_lookup.proofs.Lists.{neither, unless_assoc, unless_none, gains_then}
+use Rattle.std.specs.Option.{option_or}
+use Rattle.std.specs.List.{filter}
+use Rattle.eon_lookup.specs.Live.{answer_of, Gains, among, first_in, ends_at, goes_on, KeyMatched, Walked}
+use Rattle.eon_lookup.proofs.Lists.{neither, option_or_assoc, option_or_none, gains_then}
 use Rattle.eon_lookup.proofs.Pairs.{key_here_lem, steps_tree, no_first, inside_first, Inner, pair_gives}
 
 pub tree_parts : (t : TokenTree) → length (prefix_of t) + value_size (value_of t) ≤ tree_size t
@@ -43,7 +45,7 @@ module _ (s tb : List ℕ) (end : ℕ) (q : List ℕ) (paths : List Keys) (d : �
     pub left : KeyValues
     pub inside : PairedAt s tb end j left cl
     pub steps : n + steps_in ps left ≡ steps_in ps kvs
-    pub gains : (p : ℕ) → unless (answer_of (get_or answers p 0)) (gives j left p) ≡ unless (answer_of (get_or old p 0)) (gives base kvs p)
+    pub gains : (p : ℕ) → option_or (answer_of (get_or answers p 0)) (gives j left p) ≡ option_or (answer_of (get_or old p 0)) (gives base kvs p)
 
   pub through_start : (kvs : KeyValues) (cl : List Slice) (base : ℕ) (old : List ℕ) → PairedAt s tb end base kvs cl → Through kvs cl base old old base 0
   through_start kvs cl base old h = record { left = kvs; inside = h; steps = omega arith; gains = λ p. refl }
@@ -59,8 +61,8 @@ module _ (s tb : List ℕ) (end : ℕ) (q : List ℕ) (paths : List Keys) (d : �
         size = z;
         gains = record {
           has = λ p.
-              sym (unless_none (answer_of (get_or answers p 0)))
-              ∙ ap (unless (answer_of (get_or answers p 0))) (sym (ap (λ (l : KeyValues). gives j l p) e ∙ ap (λ (o : Option ℕ). cond (elem p live) o None) (no_first j (rest_at q paths d p)) ∙ neither (elem p live)))
+              sym (option_or_none (answer_of (get_or answers p 0)))
+              ∙ ap (option_or (answer_of (get_or answers p 0))) (sym (ap (λ (l : KeyValues). gives j l p) e ∙ ap (λ (o : Option ℕ). cond (elem p live) o None) (no_first j (rest_at q paths d p)) ∙ neither (elem p live)))
               ∙ t.gains p;
         };
       }
@@ -134,16 +136,16 @@ module _ {s tb : List ℕ} {end : ℕ} {q : List ℕ} {paths : List Keys} {d : �
             inside = e.onward v j' nv nj;
             steps = omega arith;
             gains = λ p.
-                ap (λ (y : ℕ). unless (answer_of (get_or answers₂ p 0)) (given y e.rest p)) (omega arith)
-                ∙ ap (λ (o : Option ℕ). unless o (given (j + count e.key + count e.val) e.rest p)) (both.has p)
-                ∙ unless_assoc (answer_of (get_or answers p 0)) (gained p) (given (j + count e.key + count e.val) e.rest p)
-                ∙ ap (unless (answer_of (get_or answers p 0))) (pair_gives q paths d (key_here s tb k) live g j w e.key e.val e.rest key_is (omega arith) p)
-                ∙ ap (λ (l : KeyValues). unless (answer_of (get_or answers p 0)) (given j l p)) (sym e.is)
+                ap (λ (y : ℕ). option_or (answer_of (get_or answers₂ p 0)) (given y e.rest p)) (omega arith)
+                ∙ ap (λ (o : Option ℕ). option_or o (given (j + count e.key + count e.val) e.rest p)) (both.has p)
+                ∙ option_or_assoc (answer_of (get_or answers p 0)) (gained p) (given (j + count e.key + count e.val) e.rest p)
+                ∙ ap (option_or (answer_of (get_or answers p 0))) (pair_gives q paths d (key_here s tb k) live g j w e.key e.val e.rest key_is (omega arith) p)
+                ∙ ap (λ (l : KeyValues). option_or (answer_of (get_or answers p 0)) (given j l p)) (sym e.is)
                 ∙ t.gains p;
           }
         where
           gained : ℕ → Option ℕ
-          gained p = unless (among live (ends_at q paths d (key_here s tb k) w) p) (among (keep (goes_on q paths d (key_here s tb k)) live) (λ y. inside_first w the_value (rest_at q paths (d + 1) y)) p)
+          gained p = option_or (among live (ends_at q paths d (key_here s tb k) w) p) (among (filter (goes_on q paths d (key_here s tb k)) live) (λ y. inside_first w the_value (rest_at q paths (d + 1) y)) p)
 
           both : Gains gained answers answers₂
           both = gains_then b.gains i.gains (λ p. refl)

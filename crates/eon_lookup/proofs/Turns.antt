@@ -1,13 +1,15 @@
 -- KeyMatched a key of the event: the turns over the paths.
 use Rattle.std.proofs.Common.{append-nil, Option, None, Some, ◌≡◌, refl, sym, ap, ap₂, ◌∙◌, subst, Bool, true, false, ◌&&◌, not, cond, List, [], ◌∷◌, ◌++◌, ℕ, ◌+◌, ◌≤◌, ◌<◌, arith, add-one, length, get_or, take, set, length-set, take-suc, take_all, take-suc-set, ltb, eqb, lt-ltb, le-ltb}
+use Rattle.std.proofs.lemmas.List.Elements.{filter-append}
 use Rattle.eon_spec.specs.Base.{elem, eq_list}
 use Rattle.eon_spec.specs.Calls.{record_text}
 use Rattle.eon_spec.specs.Lookup.{Key, is_key}
 use Rattle.eon_table.specs.Words.{word, record_of}
 use Rattle.eon_lookup.specs.declared.paths.Keys.{Keys}
 use Rattle.eon_lookup.specs.Keys.{many, key_kind, key_here, key_at, GoesOn, Going}
-use Rattle.eon_lookup.specs.Live.{answered, Gains, among, keep, matches, ends_at, goes_on, KeyMatched}
-use Rattle.eon_lookup.proofs.Lists.{neither, elem_at, keep_append, gains_nothing, gains_then, gave, among_more}
+use Rattle.std.specs.List.{filter}
+use Rattle.eon_lookup.specs.Live.{answered, Gains, among, matches, ends_at, goes_on, KeyMatched}
+use Rattle.eon_lookup.proofs.Lists.{neither, elem_at, gains_nothing, gains_then, gave, among_more}
 
 pub no_key : (s tb : List ℕ) (k : ℕ) → key_kind (word tb k 0) ≡ false → key_here s tb k ≡ None
 no_key s tb k e = ap (λ (b : Bool). cond b (Some (record_text s (record_of tb k))) None) e
@@ -31,7 +33,7 @@ module _ (q : List ℕ) (paths : List Keys) (d : ℕ) (key : Option Key) (live :
     pub inside : i ≤ length live
     pub size : length answers ≡ 128
     pub room : length next ≡ 128
-    pub list : take n next ≡ keep on (take i live)
+    pub list : take n next ≡ filter on (take i live)
     pub gains : Gains (among (take i live) ends) old answers
 
   pub turns_start : (next : List ℕ) → length old ≡ 128 → length next ≡ 128 → Turns old next 0 0
@@ -41,7 +43,7 @@ module _ (q : List ℕ) (paths : List Keys) (d : ℕ) (key : Option Key) (live :
   pub turns_end : (answers next : List ℕ) (n i : ℕ) → Turns answers next n i → length live ≤ i → KeyMatched q paths d key live w old answers (take n next)
   turns_end answers next n i t h =
       let e : take i live ≡ live = take_all i live h in
-      record { size = t.size; list = t.list ∙ ap (keep on) e; gains = subst (λ (ps : List ℕ). Gains (among ps ends) old answers) e t.gains }
+      record { size = t.size; list = t.list ∙ ap (filter on) e; gains = subst (λ (ps : List ℕ). Gains (among ps ends) old answers) e t.gains }
 
   -- what the test of two texts says
   pub text_says : (b : List ℕ) → key ≡ Some b → (p : ℕ) (z : Bool) → z ≡ eq_list (key_at q paths p d) b → matches q paths d key p ≡ z
@@ -55,9 +57,9 @@ module _ (q : List ℕ) (paths : List Keys) (d : ℕ) (key : Option Key) (live :
       off : (p : ℕ) → matches q paths d key p ≡ false
       off p = ap (is_key (key_at q paths p d)) e
 
-      all : (l : List ℕ) → keep on l ≡ []
+      all : (l : List ℕ) → filter on l ≡ []
       all [] = refl
-      all (p ∷ l) = ap (λ (b : Bool). cond (b && ltb (d + 1) (many paths p)) (p ∷ keep on l) (keep on l)) (off p) ∙ all l
+      all (p ∷ l) = ap (λ (b : Bool). cond (b && ltb (d + 1) (many paths p)) (p ∷ filter on l) (filter on l)) (off p) ∙ all l
 
       nothing : (p : ℕ) → among live ends p ≡ None
       nothing p = ap (λ (b : Bool). among live (λ x. cond (b && not (ltb (d + 1) (many paths p))) (Some w) None) p) (off p) ∙ neither (elem p live)
@@ -69,8 +71,8 @@ module _ (q : List ℕ) (paths : List Keys) (d : ℕ) (key : Option Key) (live :
     more : take (i + 1) live ≡ take i live ++ (p ∷ [])
     more = ap (λ (m : ℕ). take m live) (add-one i) ∙ take-suc live i 0 h
 
-    lists : (b : Bool) → on p ≡ b → keep on (take (i + 1) live) ≡ keep on (take i live) ++ cond b (p ∷ []) []
-    lists b e = ap (keep on) more ∙ keep_append on (take i live) (p ∷ []) ∙ ap (λ (c : Bool). keep on (take i live) ++ cond c (p ∷ []) []) e
+    lists : (b : Bool) → on p ≡ b → filter on (take (i + 1) live) ≡ filter on (take i live) ++ cond b (p ∷ []) []
+    lists b e = ap (filter on) more ∙ filter-append on (take i live) (p ∷ []) ∙ ap (λ (c : Bool). filter on (take i live) ++ cond c (p ∷ []) []) e
 
     -- answers that gain what path p gains
     gained : (answers' : List ℕ) → Gains (λ x. cond (eqb x p) (ends p) None) answers answers' → Gains (among (take (i + 1) live) ends) old answers'
@@ -89,7 +91,7 @@ module _ (q : List ℕ) (paths : List Keys) (d : ℕ) (key : Option Key) (live :
           inside = omega arith;
           size = t.size;
           room = t.room;
-          list = t.list ∙ sym (lists false (ap (λ (b : Bool). b && ltb (d + 1) (many paths p)) e) ∙ append-nil (keep on (take i live)));
+          list = t.list ∙ sym (lists false (ap (λ (b : Bool). b && ltb (d + 1) (many paths p)) e) ∙ append-nil (filter on (take i live)));
           gains = gained answers (stay (ap (λ (b : Bool). cond (b && not (ltb (d + 1) (many paths p))) (Some w) None) e));
         }
 
@@ -121,7 +123,7 @@ module _ (q : List ℕ) (paths : List Keys) (d : ℕ) (key : Option Key) (live :
           inside = omega arith;
           size = ap length a ∙ same (eqb (get_or answers p 0) 4294967295) ∙ z;
           room = t.room;
-          list = t.list ∙ sym (lists false f ∙ append-nil (keep on (take i live)));
+          list = t.list ∙ sym (lists false f ∙ append-nil (filter on (take i live)));
           gains = gained answers' (subst (λ (x : List ℕ). Gains (λ x. cond (eqb x p) (ends p) None) answers x) (sym a) (subst (λ (x : Option ℕ). Gains (λ y. cond (eqb y p) x None) answers (answered answers p w)) (sym o) (gave answers p w (omega arith) v)));
         }
       where

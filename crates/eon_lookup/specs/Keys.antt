@@ -1,5 +1,5 @@
 -- The paths as the walk has them: where each key's text stands in the path text.
-use Rattle.std.specs.Prelude.{ℕ, zero, suc, ◌+◌, ◌-◌, ◌≤◌, ◌<◌, ◌≡◌, Bool, true, ◌||◌, cond, List, [], ◌∷◌, ◌++◌, length, get_or, eqb, Option, None, Some}
+use Rattle.std.specs.Prelude.{ℕ, zero, suc, ◌+◌, ◌-◌, ◌≤◌, ◌<◌, ◌≡◌, Bool, true, ◌||◌, cond, List, [], ◌∷◌, ◌++◌, map, length, get_or, eqb, Option, None, Some}
 use Rattle.std.specs.Borrow.{Bor}
 use Rattle.eon_spec.specs.Base.{elem}
 use Rattle.eon_spec.specs.Tree.{TokenTree, TokenValue}
@@ -49,8 +49,7 @@ module _ (q : List ℕ) where
   whole k = keys_from k.places 0 k.len
 
   abbrev pub wholes : List Keys → List Path
-  wholes [] = []
-  wholes (k ∷ ks) = whole k ∷ wholes ks
+  wholes = map whole
 
   module _ (paths : List Keys) where
     -- key d of path p
@@ -62,8 +61,7 @@ module _ (q : List ℕ) where
     rest_at d p = keys_from (get_or paths p no_keys).places d (many paths p - d)
 
     abbrev pub rests : ℕ → List ℕ → List Path
-    rests d [] = []
-    rests d (p ∷ ps) = rest_at d p ∷ rests d ps
+    rests d = map (rest_at d)
 
 -- path p has a key behind d of them
 pub record GoesOn (paths : List Keys) (d p : ℕ) : Type 0 where

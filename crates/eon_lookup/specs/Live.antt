@@ -1,5 +1,7 @@
 -- The walk's answers: of each path the first value that it reaches.
 use Rattle.std.specs.Prelude.{ℕ, ◌+◌, ◌≡◌, Bool, ◌&&◌, not, cond, List, [], ◌∷◌, length, get_or, set, ltb, eqb, Option, None, Some}
+use Rattle.std.specs.List.{filter}
+use Rattle.std.specs.Option.{option_or}
 use Rattle.eon_spec.specs.Base.{elem}
 use Rattle.eon_spec.specs.Tree.{TokenTree, KeyValues}
 use Rattle.eon_spec.specs.Lookup.{paths_max, none_word, Key, Path, is_key, reached_in, steps_in, steps, reached}
@@ -15,27 +17,17 @@ first_some (n ∷ ns) = Some n
 abbrev pub answer_of : ℕ → Option ℕ
 answer_of w = cond (eqb w none_word) None (Some w)
 
--- an answer that a path has is kept
-abbrev pub unless : Option ℕ → Option ℕ → Option ℕ
-unless None b = b
-unless (Some a) b = Some a
-
 -- path p is answered by record w, unless it has an answer
 abbrev pub answered : List ℕ → ℕ → ℕ → List ℕ
 answered answers p w = cond (eqb (get_or answers p 0) none_word) (set answers p w) answers
 
--- each path has what it had, or else what `new` gives it
+-- each path keeps what it had, or else has what `new` gives it
 pub record Gains (new : ℕ → Option ℕ) (old answers : List ℕ) : Type 0 where
-  pub has : (p : ℕ) → answer_of (get_or answers p 0) ≡ unless (answer_of (get_or old p 0)) (new p)
+  pub has : (p : ℕ) → answer_of (get_or answers p 0) ≡ option_or (answer_of (get_or old p 0)) (new p)
 
 -- only the paths of a list
 abbrev pub among : List ℕ → (ℕ → Option ℕ) → ℕ → Option ℕ
 among ps f p = cond (elem p ps) (f p) None
-
--- the numbers of a list that pass
-abbrev pub keep : (ℕ → Bool) → List ℕ → List ℕ
-keep f [] = []
-keep f (p ∷ ps) = cond (f p) (p ∷ keep f ps) (keep f ps)
 
 -- the first value that a path, which has a key, reaches in a map's pairs
 abbrev pub first_in : ℕ → KeyValues → Path → Option ℕ
@@ -57,7 +49,7 @@ module _ (q : List ℕ) (paths : List Keys) (d : ℕ) (key : Option Key) where
   -- behind a key: the paths that end have record w for their answer, and `on` are the others in their order
   pub record KeyMatched (live : List ℕ) (w : ℕ) (old answers on : List ℕ) : Type 0 where
     pub size : length answers ≡ paths_max
-    pub list : on ≡ keep goes_on live
+    pub list : on ≡ filter goes_on live
     pub gains : Gains (among live (ends_at w)) old answers
 
 -- what a walk through a map's pairs, the first at record n, gives the paths of a list behind d keys

@@ -1,16 +1,16 @@
 -- Which bytes the records of a text cover: no byte beyond the text, and one at least where the text has one. So 27 is for the empty text.
-use Rattle.std.proofs.Common.{Option, None, Some, ◌≡◌, refl, sym, ◌∙◌, ap, subst, Bool, true, false, ◌||◌, List, [], ◌∷◌, ◌++◌, ℕ, suc, ◌<◌, arith, length}
-use Rattle.std.proofs.Math.Bool.{or_assoc}
+use Rattle.std.proofs.Common.{Option, None, Some, ◌≡◌, refl, ◌∙◌, ap, subst, Bool, true, false, ◌||◌, List, [], ◌∷◌, ◌++◌, ℕ, suc, ◌<◌, arith, length}
+use Rattle.std.proofs.lemmas.List.Folds.{list_any-append}
 use Rattle.eon_spec.specs.Utf8.{is_utf8}
 use Rattle.eon_spec.specs.RecordKind.{IDENTIFIER, NUMBER, STRING, LIST, MAP, VARIANT, PREFIX_COMMENT, CLOSING_COMMENT}
 use Rattle.eon_spec.specs.Tree.{Span, TokenTree, TokenValue, tree, identifier, number, quoted_string, list_of, map_of, variant_of}
 use Rattle.eon_spec.specs.Parse.{parsed, parse}
 use Rattle.eon_spec.specs.Records.{Record, record_at, leaf, comments, suffix, around, tree_records, value_records, trees_records, pairs_records}
 use Rattle.eon_spec.specs.Pick.{holds_byte, picked}
-use Rattle.eon_laws.proofs.Facts.{clash}
+use Rattle.eon_laws.proofs.Facts.{clash, or_left}
 use Rattle.eon_laws.proofs.Spans.{HasByte, tree_fits, tree_has_byte}
 use Rattle.eon_table.proofs.Spans.{AllSpanned, tree_spanned}
-use Rattle.eon_pick.proofs.Nearest.{covered, or_cases, or_left, held, holds_of, Answered, picked_is}
+use Rattle.eon_pick.proofs.Nearest.{covered, or_cases, held, holds_of, Answered, picked_is}
 
 -- ---- no byte beyond the text
 
@@ -19,10 +19,6 @@ within s b [] h e = clash e refl
 within s b (r ∷ rs) h e = or_cases (holds_byte b r) (covered b rs) e (λ k. omega (arith, (held b r k).1, h.0.within)) (within s b rs h.1)
 
 -- ---- a byte of the tree's own record
-
-covered_append : (b : ℕ) (a c : List Record) → covered b (a ++ c) ≡ covered b a || covered b c
-covered_append b [] c = refl
-covered_append b (r ∷ a) c = ap (λ (x : Bool). holds_byte b r || x) (covered_append b a c) ∙ sym (or_assoc (holds_byte b r) (covered b a) (covered b c))
 
 first_covered : (r : Record) (rs : List Record) → r.start < r.end → covered r.start (r ∷ rs) ≡ true
 first_covered r rs h = or_left (holds_byte r.start r) (covered r.start rs) (holds_of r.start r (omega arith) h)
@@ -50,7 +46,7 @@ tree_covers : (t : TokenTree) → HasByte t → (b : ℕ) × (covered b (tree_re
 unfolding tree_records
 tree_covers (tree s p v x) h = (
   s.start,
-  covered_append s.start (comments PREFIX_COMMENT p ++ value_records s v) (suffix x) ∙ ap (λ (y : Bool). y || covered s.start (suffix x)) (covered_append s.start (comments PREFIX_COMMENT p) (value_records s v))
+  list_any-append (holds_byte s.start) (comments PREFIX_COMMENT p ++ value_records s v) (suffix x) ∙ ap (λ (y : Bool). y || covered s.start (suffix x)) (list_any-append (holds_byte s.start) (comments PREFIX_COMMENT p) (value_records s v))
       ∙ or_middle (covered s.start (comments PREFIX_COMMENT p)) (covered s.start (value_records s v)) (covered s.start (suffix x)) (value_covers v s h),
 )
 

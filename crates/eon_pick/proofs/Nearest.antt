@@ -1,14 +1,15 @@
 -- The place picked: the byte is covered and no covered byte wins over it, so none is nearer and of those as near none is earlier; the record
 -- holds it, and none behind it does.
 use Rattle.std.proofs.Common.{Option, None, Some, ◌≡◌, refl, sym, ◌∙◌, ap, subst, Bool, true, false, ◌&&◌, ◌||◌, cond, List, [], ◌∷◌, ◌++◌, ℕ, zero, suc, pred, ◌+◌, ◌-◌, min, max, ◌≤◌, ◌<◌, arith, ltb, leb, eqb, le-leb, lt-ltb, eq-eqb}
+use Rattle.std.specs.List.{list_any}
+use Rattle.std.proofs.lemmas.Bool.{or_from}
 use Rattle.eon_spec.specs.Records.{Record}
-use Rattle.eon_laws.proofs.Facts.{clash, and_left, and_right, nor_left, nor_right, false_of, le_of, lt_of, eq_of, le_of_not}
+use Rattle.eon_laws.proofs.Facts.{clash, and_left, and_right, or_left, or_right, nor_left, nor_right, false_of, le_of, lt_of, eq_of, le_of_not}
 use Rattle.eon_spec.specs.Pick.{holds_byte, distance, nearest_in, prefers, wins, nearer, nearest, or_this, highest, picked_by, picked}
 
 -- some record holds the byte
 abbrev pub covered : ℕ → List Record → Bool
-covered b [] = false
-covered b (r ∷ rs) = holds_byte b r || covered b rs
+covered b = list_any (holds_byte b)
 
 -- ---- the order in which bytes win
 
@@ -134,16 +135,6 @@ abbrev pub Found : ℕ → List Record → Option ℕ → Type 0
 Found o rs None = (c : ℕ) → covered c rs ≡ false
 Found o rs (Some b) = Nearest o b rs
 
-or_true : (x y : Bool) → y ≡ true → x || y ≡ true
-or_true true y e = refl
-or_true false y e = e
-
-pub or_left : (x y : Bool) → x ≡ true → x || y ≡ true
-or_left x y e = rw e
-
-or_none : (x y : Bool) → x ≡ false → y ≡ false → x || y ≡ false
-or_none x y e f = rw (e, f)
-
 less_le : (x y z : ℕ) → x < y → y ≤ z → x ≤ z
 less_le x y z g h = omega arith
 
@@ -151,10 +142,10 @@ le_le : (x y z : ℕ) → x ≤ y → y ≤ z → x ≤ z
 le_le x y z g h = omega arith
 
 nearer_found : (o : ℕ) (r : Record) (rs : List Record) (x y : Option ℕ) → nearest_in o r ≡ x → Found o rs y → Found o (r ∷ rs) (nearer o x y)
-nearer_found o r rs None None e f = λ c. or_none (holds_byte c r) (covered c rs) (nearest_empty o r c e) (f c)
+nearer_found o r rs None None e f = λ c. or_from (holds_byte c r) (covered c rs) (nearest_empty o r c e) (f c)
 nearer_found o r rs None (Some b) e f =
     record {
-      is_covered = or_true (holds_byte b r) (covered b rs) f.is_covered;
+      is_covered = or_right (holds_byte b r) (covered b rs) f.is_covered;
       none_wins = λ c h. or_cases (holds_byte c r) (covered c rs) h (λ k. clash k (nearest_empty o r c e)) (f.none_wins c);
     }
 nearer_found o r rs (Some a) None e f =
@@ -167,7 +158,7 @@ nearer_found o r rs (Some a) (Some b) e f = go (wins o b a) refl
     go : (x : Bool) → wins o b a ≡ x → Found o (r ∷ rs) (cond x (Some b) (Some a))
     go true p =
         record {
-          is_covered = or_true (holds_byte b r) (covered b rs) f.is_covered;
+          is_covered = or_right (holds_byte b r) (covered b rs) f.is_covered;
           none_wins = λ c h. or_cases (holds_byte c r) (covered c rs) h (λ k. more_loses o c b (less_le (rank o b) (rank o a) (rank o c) (wins_less o b a p) (nearest_in_lem o r a c e k))) (f.none_wins c);
         }
     go false p =
@@ -240,7 +231,7 @@ top_step b n r rs None t = go (holds_byte b r) refl
   where
     go : (x : Bool) → holds_byte b r ≡ x → Top b n (r ∷ rs) (cond x (Some n) None)
     go true p = (0, omega arith, record { it = r; stands = refl; holds = p; last = behind b r rs t })
-    go false p = or_none (holds_byte b r) (covered b rs) p t
+    go false p = or_from (holds_byte b r) (covered b rs) p t
 
 pub highest_top : (b n : ℕ) (rs : List Record) → Top b n rs (highest b n rs)
 highest_top b n [] = refl

@@ -1,4 +1,4 @@
-use Rattle.std.proofs.Common.{Some, Ok, Err, ◌≡◌, sym, ap, ◌∙◌, subst, List, length, take, ℕ, rules, arith}
+use Rattle.std.proofs.Common.{Some, Ok, Err, ◌≡◌, sym, ap, ◌∙◌, subst, length, take, rules, arith}
 use Rattle.eon_spec.specs.Refused.{refusal_of}
 use Rattle.eon_spec.specs.Calls.{refused_with}
 use Rattle.eon_spec.specs.Lookup.{IsLookup}

@@ -1,4 +1,5 @@
 use Rattle.std.proofs.Common.{◌≤◌, ◌≡◌, refl, sym, ap, ◌∙◌, subst, ℕ, [], ◌∷◌, length, leb, take, length-take-le, length-set, ◌+◌, ◌<◌, arith}
+use Rattle.std.proofs.lemmas.List.{map-append, length-map}
 use Rattle.std.proofs.lemmas.Bool.{false≢true, lt-leb}
 use Rattle.eon_spec.specs.Tree.{TokenTree}
 use Rattle.eon_spec.specs.Lookup.{paths_max, path_of, paths_of, path_list_in}
@@ -6,7 +7,7 @@ use Rattle.eon_table.specs.TreeAt.{SomeTree, TreeAt, value_of}
 use Rattle.eon_table.proofs.Walk.{value_kind, more_in, tree_pos, tree_value}
 use Rattle.eon_lookup.specs.Keys.{below, whole, wholes, Going, IsPaths}
 use Rattle.eon_lookup.proofs.Containers.{TheList, the_list, in_list}
-use Rattle.eon_lookup.proofs.Forms.{Listed, listed_start, listed_all, listed_tree, listed_next, listed_bad, listed_long, path_of_lem, list_of_lem, list_other, list_done, list_bad, wholes_append, wholes_length, put_last, going_put}
+use Rattle.eon_lookup.proofs.Forms.{Listed, listed_start, listed_all, listed_tree, listed_next, listed_bad, listed_long, path_of_lem, list_of_lem, list_other, list_done, list_bad, put_last, going_put}
 use Rattle.eon_lookup.proofs.paths.read_paths.Goals as goal
 use Rattle.eon_lookup.proofs.paths.read_paths.Goals.{In-loop-room, After-loop-room}
 
@@ -45,7 +46,7 @@ returns-then-n-eq-PATHS_MAX c = let a = c.args in
           let z = here (goal.at.returns-then-n-eq-PATHS_MAX c).In-loop-room end u h in
           list_of_lem u ∙ ap path_list_in z.is
           ∙ listed_long path_of paths_of refl (λ t ts. refl) s a.list.table.now c.behind-end.result z.items z.closing l.j (wholes s ks) (l.invariant.3 z.items z.closing z.at) (sym c.loop-room-test.ensures) (λ ps. leb (length ps) 128)
-          (λ ps f. lt-leb (length ps) 128 (omega (arith, f, full, wholes_length s ks, length-take-le l.n l.room (omega (arith, l.invariant.0, l.invariant.1)))));
+          (λ ps f. lt-leb (length ps) 128 (omega (arith, f, full, length-map ks (whole s), length-take-le l.n l.room (omega (arith, l.invariant.0, l.invariant.1)))));
       go = tt;
     }
 
@@ -91,7 +92,7 @@ loop-room-preserved c =
       length-set l.room l.n k ∙ l.invariant.1,
       going_put l.room l.n k more l.invariant.1 l.invariant.2 c.in_ok-room.ensures.sized.0 c.in_ok-room.ensures.sized.1,
       λ vs cl h. subst (Listed path_of paths_of refl (λ t ts. refl) s tb c.behind-end.result vs cl c.next_tree-j.result)
-          (sym (ap (wholes s) (put_last l.room l.n k more) ∙ wholes_append s (take l.n l.room) (k ∷ [])))
+          (sym (ap (wholes s) (put_last l.room l.n k more) ∙ map-append (whole s) (take l.n l.room) (k ∷ [])))
           (listed_next path_of paths_of refl (λ t ts. refl) s tb c.behind-end.result vs cl l.j (wholes s (take l.n l.room)) (l.invariant.3 vs cl h) (sym c.loop-room-test.ensures) c.next_tree-j.result c.next_tree-j.ensures (whole s k)
           (λ u b. path_of_lem u ∙ is (value_of u) (tree_value s tb c.behind-end.result l.j c.after_prefix.result u b c.after_prefix.ensures))),
     )
@@ -107,5 +108,5 @@ returns c =
           let z = the_list _ _ _ _ t.behind-end.ensures (value_of u) (tree_value s c.args.list.table.now end 0 t.after_prefix-i.result u h t.after_prefix-i.ensures) (t.if-not-is.ensures.0 refl) in
           list_of_lem u ∙ ap path_list_in z.is ∙ list_done z.items z.closing (wholes s (take l.n l.room))
           (listed_all path_of paths_of refl (λ t ts. refl) _ _ _ _ _ _ _ (l.invariant.3 z.items z.closing z.at) (sym c.loop-room-test.ensures))
-          (omega (arith, l.invariant.0, wholes_length s (take l.n l.room), length-take-le l.n l.room (omega (arith, l.invariant.0, l.invariant.1))));
+          (omega (arith, l.invariant.0, length-map (take l.n l.room) (whole s), length-take-le l.n l.room (omega (arith, l.invariant.0, l.invariant.1))));
     }
