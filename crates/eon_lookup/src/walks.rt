@@ -12,7 +12,7 @@ use crate::paths::{Keys, is_key};
 use eon_spec::{NONE, PATHS_MAX, RecordKind};
 use eon_table::Sheet;
 
-// Of the paths of a path text, by their numbers, those whose first `matched` keys were met and which go on.
+// Of the paths of a path text, by their numbers, those whose first `matched` keys were met and which have one left.
 #[derive(Clone, Copy)]
 pub struct Live<'a> {
     pub text: &'a [u8],
@@ -86,9 +86,9 @@ impl<'a> Live<'a> {
             return None;
         }
         let key = event.record_text(k);
-        // One pass, which compares each path's key once: two chains, of those that end and of those that go on, would compare it twice.
         let behind = self.matched + 1;
         let mut n: usize = 0;
+        // One pass, which compares each path's key once: two chains, of those that end and of those that go on, would compare it twice.
         for &p in self.numbers {
             let keys = &self.paths[p];
             if keys.text(self.text, self.matched) != key {

@@ -36,7 +36,7 @@ pub fn records_in(
     Ok(count)
 }
 
-// The first records of a sheet, and the range that is asked for. No `Records` in it: each line that reads a record would be longer by a field.
+// The first records of a sheet, and the range that is asked for. No `Records` in it: each line that reads a record would be longer.
 #[derive(Clone, Copy)]
 struct Query<'a> {
     sheet: Sheet<'a>,
