@@ -67,7 +67,8 @@ impl<'a> Live<'a> {
     }
 
     // Behind the key of record k, whose value is record w: the paths that end are answered, and those that go on are handed back, if one
-    // does. Their numbers stand in a lent list, since there is no heap.
+    // does. Their numbers stand in a lent list, since there is no heap. One loop: two chains, of those that end and of those that go on, would
+    // compare each key twice.
     fn match_key(
         self,
         event: Sheet,
@@ -77,10 +78,8 @@ impl<'a> Live<'a> {
         next: &'a mut [usize; PATHS_MAX],
     ) -> Option<Live<'a>>
         requires { w < none_word }
-        ensures { MatchOption result
-            (KeyMatched self.entry.text.now self.entry.paths.now self.entry.matched (key_here event.entry.text.now event.entry.table.now k) self.entry.numbers.now w answers.old answers.new [])
-            (λ on. (0 < length on.numbers.now) × (on.text.now ≡ self.entry.text.now) × (on.paths.now ≡ self.entry.paths.now) × (on.matched ≡ self.entry.matched + 1)
-            × KeyMatched self.entry.text.now self.entry.paths.now self.entry.matched (key_here event.entry.text.now event.entry.table.now k) self.entry.numbers.now w answers.old answers.new on.numbers.now) }
+        ensures { MatchOption result (KeyMatched self.entry.text.now self.entry.paths.now self.entry.matched (key_here event.entry.text.now event.entry.table.now k) self.entry.numbers.now w answers.old answers.new [])
+            (λ on. (0 < length on.numbers.now) × (on.text.now ≡ self.entry.text.now) × (on.paths.now ≡ self.entry.paths.now) × (on.matched ≡ self.entry.matched + 1) × KeyMatched self.entry.text.now self.entry.paths.now self.entry.matched (key_here event.entry.text.now event.entry.table.now k) self.entry.numbers.now w answers.old answers.new on.numbers.now) }
     {
         if !is_key(event, k) {
             return None;
@@ -88,7 +87,6 @@ impl<'a> Live<'a> {
         let key = event.record_text(k);
         let behind = self.matched + 1;
         let mut n: usize = 0;
-        // One pass, which compares each path's key once: two chains, of those that end and of those that go on, would compare it twice.
         for &p in self.numbers {
             let keys = &self.paths[p];
             if keys.text(self.text, self.matched) != key {
@@ -101,14 +99,13 @@ impl<'a> Live<'a> {
             }
             give(answers, p, w);
         }
-        let numbers = &next[..n];
-        if numbers.is_empty() {
+        if next[..n].is_empty() {
             return None;
         }
         Some(Live {
             text: self.text,
             paths: self.paths,
-            numbers,
+            numbers: &next[..n],
             matched: behind,
         })
     }
