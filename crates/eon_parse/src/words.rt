@@ -2,7 +2,6 @@
 // too; a type of such a place would be made anew from each record's number.
 ghost use Rattle.std.specs.Prelude.{◌≡◌, ◌<◌, set};
 ghost use Rattle.std.proofs.lemmas.List.Edits.{sets};
-ghost use Rattle.eon_spec.specs.RecordKind.{word_of};
 ghost use Rattle.eon_parse.specs.Answer.{holds, agrees, words_of};
 
 use eon_spec::RecordKind;
@@ -24,7 +23,7 @@ impl Record {
         requires { i < 1000000 }
         ensures { result ≡ agrees table.now i (words_of self) }
     {
-        if !holds(table, i, word(self.kind)) {
+        if !holds(table, i, u32::from(self.kind)) {
             return false;
         }
         if !holds(table, i + 1, self.start) {
@@ -43,19 +42,12 @@ impl Record {
         requires { i < 1000000 }
         ensures { table.new ≡ sets table.old i (words_of self) }
     {
-        put(table, i, word(self.kind));
+        put(table, i, u32::from(self.kind));
         put(table, i + 1, self.start);
         put(table, i + 2, self.text_end);
         put(table, i + 3, self.end);
         put(table, i + 4, self.size);
     }
-}
-
-// A record's first word.
-fn word(kind: RecordKind) -> u32
-    ensures { result ≡ word_of kind }
-{
-    kind as u32
 }
 
 #[tactic(auto, unfolding(crate::specs::Answer::holds))]

@@ -14,6 +14,17 @@ pub enum RecordKind {
     ClosingComment,
 }
 
+impl From<RecordKind> for u32 {
+    ghost use Rattle.eon_spec.specs.RecordKind.{word_of};
+
+    ghost from_gives = { λ k n. n ≡ word_of k };
+
+    fn from(kind: RecordKind) -> u32 {
+        kind as u32
+    }
+}
+
+// As it is compared with a word of a table that was read, which is a usize there.
 impl From<RecordKind> for usize {
     ghost use Rattle.eon_spec.specs.RecordKind.{word_of};
 
