@@ -1,14 +1,7 @@
 -- Rules that a character cannot begin, and the longest token where nothing further matches.
-use mathlib.Core.Path.{◌≡◌, refl, sym, ◌∙◌, ap, subst}
-use mathlib.Core.Bool.{Bool, true, false, ◌&&◌, ◌||◌, not}
-use mathlib.Core.List.{List, [], ◌∷◌, ◌++◌}
-use Prim.Native.Nat.{ℕ, suc, ◌≤◌}
+use Rattle.std.proofs.Common.{◌≡◌, ℕ, suc, ◌≤◌, Bool, true, false, not, ◌&&◌, ◌||◌, eqb, ltb, List, [], ◌∷◌, ◌++◌, length, sym, refl, ap, ◌∙◌, subst, arith, take_all}
 use Prim.Native.Char.{code}
-use native.Mathlib.Omega.{arith}
-use lib.ListN.{length}
-use lib.Seq.{take-length}
-use lib.Dec.{leb, ltb, eqb}
-use Rattle.eon_laws.proofs.Facts.{clash, and_left, and_right, false_of, le_of, lt_of, eq_of}
+use Rattle.eon_laws.proofs.Facts.{within_bounds, clash, and_left, and_right, false_of, lt_of, eq_of}
 use Rattle.eon_spec.specs.Base.{within}
 use Rattle.eon_spec.specs.Utf8.{Character, code_point}
 use Rattle.eon_spec.specs.Regex.{Item, ◌to◌, only, in_item, in_class, Regex, never, empty, one_of, none_of, ◌then◌, ◌or◌, many, nullable, deriv, longest}
@@ -36,23 +29,20 @@ apart lo hi (a or b) = apart lo hi a && apart lo hi b
 apart lo hi (many a) = apart lo hi a
 
 module _ (lo hi : ℕ) (c : Character) (h : within lo hi (code_point c) ≡ true) where
-  low : lo ≤ code_point c
-  low = le_of lo (code_point c) (and_left (leb lo (code_point c)) (leb (code_point c) hi) h)
-
-  high : code_point c ≤ hi
-  high = le_of (code_point c) hi (and_right (leb lo (code_point c)) (leb (code_point c) hi) h)
+  bounds : (lo ≤ code_point c) × (code_point c ≤ hi)
+  bounds = within_bounds lo hi (code_point c) h
 
   out : (a z : ℕ) → ltb hi a || ltb z lo ≡ true → (a ≤ code_point c → code_point c ≤ z → ⊥)
   out a z e f g = go (ltb hi a) refl e
     where
       go : (b : Bool) → ltb hi a ≡ b → ltb hi a || ltb z lo ≡ true → ⊥
-      go true p e = omega (arith, lt_of hi a p, low, high)
-      go false p e = omega (arith, lt_of z lo (rw p at e), low, high)
+      go true p e = omega (arith, lt_of hi a p, bounds)
+      go false p e = omega (arith, lt_of z lo (rw p at e), bounds)
 
   item_apart : (i : Item) → apart_item lo hi i ≡ true → in_item i c ≡ false
   item_apart (a to z) e =
       false_of (within (code a) (code z) (code_point c)) λ p.
-      out (code a) (code z) e (le_of (code a) (code_point c) (and_left (leb (code a) (code_point c)) (leb (code_point c) (code z)) p)) (le_of (code_point c) (code z) (and_right (leb (code a) (code_point c)) (leb (code_point c) (code z)) p))
+      let q = within_bounds (code a) (code z) (code_point c) p in out (code a) (code z) e q.0 q.1
   item_apart (only a) e = false_of (eqb (code a) (code_point c)) λ p. let q = eq_of (code a) (code_point c) p in out (code a) (code a) e (omega arith) (omega arith)
 
   class_apart : (k : List Item) → apart_class lo hi k ≡ true → in_class k c ≡ false
@@ -64,7 +54,7 @@ module _ (lo hi : ℕ) (c : Character) (h : within lo hi (code_point c) ≡ true
   apart_never never e = refl
   apart_never empty e = refl
   apart_never (one_of k) e = rw (class_apart k e, deriv)
-  apart_never (none_of k) e = clash e refl
+  apart_never (none_of k) e = cc
   apart_never (a then b) e = go (nullable a) refl (and_right (apart lo hi a) (not (nullable a)) e) (apart_never a (and_left (apart lo hi a) (not (nullable a)) e))
     where
       go : (n : Bool) → nullable a ≡ n → not (nullable a) ≡ true → deriv a c ≡ never → deriv (a then b) c ≡ never
@@ -79,7 +69,7 @@ matched r [] m = nullable_complete r m
 matched r (c ∷ s) m = matched (deriv r c) s (deriv_complete r c s m)
 
 pub whole_nullable : (r : Regex) (c : Character) (cs : List Character) → longest r (c ∷ cs) ≡ suc (length cs) → nullable (derivs r (c ∷ cs)) ≡ true
-whole_nullable r c cs e = matched r (c ∷ cs) (subst (λ (x : List Character). Matches r (c ∷ x)) (take-length cs) (longest_matches r (c ∷ cs) (length cs) e))
+whole_nullable r c cs e = matched r (c ∷ cs) (subst (λ (x : List Character). Matches r (c ∷ x)) (take_all _ cs (omega arith)) (longest_matches r (c ∷ cs) (length cs) e))
 
 pub never_stays : (s : List Character) → derivs never s ≡ never
 unfolding deriv

@@ -1,13 +1,6 @@
-use Rattle.std.specs.Prelude.{Option, None, Some}
 -- The characters of a text, one by one.
-use mathlib.Core.Path.{◌≡◌, refl, sym, ◌∙◌, ap}
-use mathlib.Core.Bool.{Bool, true, false}
-use mathlib.Core.List.{List, [], ◌∷◌}
-use Prim.Native.Nat.{ℕ, zero, suc}
-use native.Mathlib.Omega.{arith}
-use lib.ListN.{length, take, length-append}
-use lib.Seq.{length-take-le, take-length}
-use Rattle.eon_laws.proofs.Facts.{clash, and_left, and_right}
+use Rattle.std.proofs.Common.{◌≡◌, ℕ, zero, suc, Bool, true, false, List, [], ◌∷◌, length, take, Some, None, Option, sym, refl, ap, ◌∙◌, arith, length-append, length-take-le, take_all}
+use Rattle.eon_laws.proofs.Facts.{and_left, and_right}
 use Rattle.eon_spec.specs.Utf8.{Range, in_range, row_of, table37, fits, len_if, char_len, well_formed_from, well_formed_len, chars_from, chars, joined, Character}
 use Rattle.eon_laws.proofs.Utf8.{char_length, chars_append, well_formed_append}
 
@@ -22,7 +15,7 @@ AllChars (c ∷ cs) = IsChar c × AllChars cs
 
 fits_take : (rs : List Range) (s : List ℕ) → fits rs s ≡ true → fits rs (take (length rs) s) ≡ true
 fits_take [] s e = refl
-fits_take (r ∷ rs) [] e = clash e refl
+fits_take (r ∷ rs) [] e = cc
 fits_take (r ∷ rs) (b ∷ s) e = rw (and_left (in_range r b) (fits rs s) e) (fits_take rs s (and_right (in_range r b) (fits rs s) e))
 
 len_if_take : (o : Option (List Range)) (s : List ℕ) (k : ℕ) → len_if o s ≡ suc k → len_if o (take k s) ≡ suc k
@@ -78,7 +71,7 @@ char_formed (b ∷ s) h = rw (h, well_formed_from) (ap suc (formed_over s))
 char_alone : (c : Character) → IsChar c → chars c ≡ c ∷ []
 unfolding chars chars_from
 char_alone [] h = absurd h
-char_alone (b ∷ s) h = rw (h, chars_from, chars_over s, take-length s)
+char_alone (b ∷ s) h = rw (h, chars_from, chars_over s, take_all (length s) s (omega arith))
 
 -- characters in a row are well-formed, and are the characters of the row
 pub all_formed : (cs : List Character) → AllChars cs → well_formed_len (joined cs) ≡ length (joined cs)

@@ -1,18 +1,11 @@
-use Rattle.std.specs.Prelude.{Option, None, Some}
 -- The comparison of records is an equivalence, and says whether two trees are equal, spans aside: each comment, leaf and name by its bytes.
 -- Assumes nothing.
-use mathlib.Core.Path.{◌≡◌, refl, sym, ◌∙◌, ap, ap₂}
-use mathlib.Core.Bool.{Bool, true, false, ◌&&◌}
-use mathlib.Core.List.{List, [], ◌∷◌, ◌++◌, append-nil, append_assoc}
-use Prim.Native.Nat.{ℕ, suc, ◌-◌, ◌<◌}
-use native.Mathlib.Omega.{arith}
-use lib.ListN.{length, take, drop}
-use lib.Dec.{eqb}
+use Rattle.std.proofs.Common.{◌≡◌, ℕ, suc, ◌-◌, ◌<◌, Bool, true, false, ◌&&◌, eqb, List, [], ◌∷◌, ◌++◌, length, take, drop, Some, None, Option, sym, refl, ap, ◌∙◌, ap₂, append_assoc, append-nil, arith}
 use Rattle.eon_spec.specs.Base.{elem, eq_list}
 use Rattle.eon_spec.specs.Tree.{Span, Slice, TokenTree, TokenValue, TokenTrees, KeyValues, tree, identifier, number, quoted_string, list_of, map_of, variant_of, no_trees, ◌∷ᵗ◌, no_pairs, pair}
 use Rattle.eon_spec.specs.Records.{Record, record_at, around, comments, suffix, tree_records, value_records, trees_records, pairs_records}
 use Rattle.eon_spec.specs.Calls.{Outcome, done, refused_with, then, read_finished, record_text, same_records, compare_call}
-use Rattle.eon_laws.proofs.Facts.{clash, and_left, and_right, eq_of, eqb_same, list_same, list_eq}
+use Rattle.eon_laws.proofs.Facts.{cons_head, cons_tail, and_left, and_right, eq_of, eqb_same, list_same, list_eq}
 
 -- what is compared of a record: kind, size, text
 pub record Key : Type 0 where
@@ -32,8 +25,8 @@ key_eq a b p q r = λ i. record { kind = p i; size = q i; text = r i }
 
 pub same_keys : (s : List ℕ) (rs : List Record) (t : List ℕ) (qs : List Record) → same_records s rs t qs ≡ true → keys_of s rs ≡ keys_of t qs
 same_keys s [] t [] e = refl
-same_keys s [] t (q ∷ qs) e = clash e refl
-same_keys s (r ∷ rs) t [] e = clash e refl
+same_keys s [] t (q ∷ qs) e = cc
+same_keys s (r ∷ rs) t [] e = cc
 same_keys s (r ∷ rs) t (q ∷ qs) e =
     let k = eqb r.kind q.kind in
     let z = eqb r.size q.size in
@@ -43,19 +36,10 @@ same_keys s (r ∷ rs) t (q ∷ qs) e =
     let h : key_of s r ≡ key_of t q = key_eq (key_of s r) (key_of t q) (eq_of r.kind q.kind (and_left k z e2)) (eq_of r.size q.size (and_right k z e2)) (list_eq (record_text s r) (record_text t q) (and_right (k && z) x e3)) in
     ap (λ (y : Key). y ∷ keys_of s rs) h ∙ ap (λ (ys : List Key). key_of t q ∷ ys) (same_keys s rs t qs (and_right (k && z && x) (same_records s rs t qs) e))
 
-pub cons_head : {k l : Key} {ks ls : List Key} → k ∷ ks ≡ l ∷ ls → k ≡ l
-cons_head e = cc
-
-pub cons_tail : {k l : Key} {ks ls : List Key} → k ∷ ks ≡ l ∷ ls → ks ≡ ls
-cons_tail e = cc
-
-pub no_cons : {A : Type 0} {k : Key} {ks : List Key} → [] ≡ k ∷ ks → A
-no_cons e = absurd (let y : ◌≡◌ {A = ℕ} 0 1 = cc in omega arith)
-
 pub keys_same : (s : List ℕ) (rs : List Record) (t : List ℕ) (qs : List Record) → keys_of s rs ≡ keys_of t qs → same_records s rs t qs ≡ true
 keys_same s [] t [] e = refl
-keys_same s [] t (q ∷ qs) e = no_cons e
-keys_same s (r ∷ rs) t [] e = no_cons (sym e)
+keys_same s [] t (q ∷ qs) e = cc
+keys_same s (r ∷ rs) t [] e = cc
 keys_same s (r ∷ rs) t (q ∷ qs) e =
     let h : key_of s r ≡ key_of t q = cons_head e in
     let p : r.kind ≡ q.kind = ap (λ (k : Key). k.kind) h in
@@ -121,10 +105,10 @@ both_of s a t b e = go (read_finished s a) refl (read_finished t b) refl
     go : (o : Outcome TokenTree) → read_finished s a ≡ o → (p : Outcome TokenTree) → read_finished t b ≡ p → Both s a t b
     go (refused_with r) q p k =
         let z = sym e ∙ ap (λ (o : Outcome TokenTree). then o (λ x. then (read_finished t b) λ y. done (same_records s (tree_records x) t (tree_records y)))) q in
-        let y : ◌≡◌ {A = ℕ} 0 1 = cc in absurd (omega arith)
+        cc
     go (done x) q (refused_with r) k =
         let z = sym e ∙ ap₂ (λ (o p : Outcome TokenTree). then o (λ x. then p λ y. done (same_records s (tree_records x) t (tree_records y)))) q k in
-        let y : ◌≡◌ {A = ℕ} 0 1 = cc in absurd (omega arith)
+        cc
     go (done x) q (done y) k =
         let z : done (same_records s (tree_records x) t (tree_records y)) ≡ done true = sym (call_is s a t b x y q k) ∙ e in
         record { first = x; second = y; is_first = q; is_second = k; same = cc }
@@ -214,7 +198,7 @@ abbrev suffix_keys : Option (List ℕ) → List Key
 suffix_keys None = []
 suffix_keys (Some b) = leaf_key 8 b ∷ []
 
-abbrev around_keys : ℕ → List ℕ → List Key → List Key
+abbrev pub around_keys : ℕ → List ℕ → List Key → List Key
 around_keys k b inside = record { kind = k; size = suc (length inside); text = b } ∷ inside
 
 mutual
@@ -246,7 +230,7 @@ module _ (s : List ℕ) where
   suffix_keys_lem None = refl
   suffix_keys_lem (Some c) = refl
 
-  around_keys_lem : (k : ℕ) (sp : Span) (e : ℕ) (inside : List Record) (ks : List Key) → keys_of s inside ≡ ks
+  pub around_keys_lem : (k : ℕ) (sp : Span) (e : ℕ) (inside : List Record) (ks : List Key) → keys_of s inside ≡ ks
       → keys_of s (around k sp e inside) ≡ around_keys k (record_text s (record_at k sp e 0)) ks
   around_keys_lem k sp e inside ks h =
       let l : length inside ≡ length ks = sym (keys_of_length s inside) ∙ ap length h in
@@ -348,26 +332,26 @@ pairs_first (pairⁱ x y ps) cl =
 
 comments_inj : (k : ℕ) (p q : List (List ℕ)) (a b : List Key) → NotFirst k a → NotFirst k b → comment_keys k p ++ a ≡ comment_keys k q ++ b → (p ≡ q) × (a ≡ b)
 comments_inj k [] [] a b g h e = (refl, e)
-comments_inj k [] (y ∷ q) [] b g h e = no_cons e
-comments_inj k [] (y ∷ q) (x ∷ a) b g h e = absurd (g (ap (λ (z : Key). z.kind) (cons_head e)))
-comments_inj k (x ∷ p) [] a [] g h e = no_cons (sym e)
-comments_inj k (x ∷ p) [] a (y ∷ b) g h e = absurd (h (sym (ap (λ (z : Key). z.kind) (cons_head e))))
+comments_inj k [] (y ∷ q) [] b g h e = cc
+comments_inj k [] (y ∷ q) (x ∷ a) b g h e = absurd (g (cc))
+comments_inj k (x ∷ p) [] a [] g h e = cc
+comments_inj k (x ∷ p) [] a (y ∷ b) g h e = absurd (h (cc))
 comments_inj k (x ∷ p) (y ∷ q) a b g h e =
     let r = comments_inj k p q a b g h (cons_tail e) in
     (ap₂ (λ (c : List ℕ) (cs : List (List ℕ)). c ∷ cs) (ap (λ (z : Key). z.text) (cons_head e)) r.0, r.1)
 
 suffix_inj : (x y : Option (List ℕ)) (a b : List Key) → NotFirst 8 a → NotFirst 8 b → suffix_keys x ++ a ≡ suffix_keys y ++ b → (x ≡ y) × (a ≡ b)
 suffix_inj None None a b g h e = (refl, e)
-suffix_inj None (Some y) [] b g h e = no_cons e
-suffix_inj None (Some y) (x ∷ a) b g h e = absurd (g (ap (λ (z : Key). z.kind) (cons_head e)))
-suffix_inj (Some x) None a [] g h e = no_cons (sym e)
-suffix_inj (Some x) None a (y ∷ b) g h e = absurd (h (sym (ap (λ (z : Key). z.kind) (cons_head e))))
+suffix_inj None (Some y) [] b g h e = cc
+suffix_inj None (Some y) (x ∷ a) b g h e = absurd (g (cc))
+suffix_inj (Some x) None a [] g h e = cc
+suffix_inj (Some x) None a (y ∷ b) g h e = absurd (h (cc))
 suffix_inj (Some x) (Some y) a b g h e = (ap Some (ap (λ (z : Key). z.text) (cons_head e)), cons_tail e)
 
 -- closing comments are no value
 closing_no : {A : Type 0} (cl : List (List ℕ)) (ks : List Key) → Starts 8 ks → comment_keys 9 cl ≡ ks → A
 closing_no [] [] s e = absurd s
-closing_no [] (k ∷ ks) s e = no_cons e
+closing_no [] (k ∷ ks) s e = cc
 closing_no (c ∷ cl) [] s e = absurd s
 closing_no (c ∷ cl) (k ∷ ks) s e = absurd (omega (arith, ap (λ (z : Key). z.kind) (cons_head e)))
 
@@ -376,7 +360,7 @@ closing_inj cl dl e = (comments_inj 9 cl dl [] [] tt tt (append-nil (comment_key
 
 -- heads of two kinds differ
 kinds_no : {A : Type 0} (k l : Key) (a b : List Key) → k ∷ a ≡ l ∷ b → (k.kind ≡ l.kind → ⊥) → A
-kinds_no k l a b e h = absurd (h (ap (λ (z : Key). z.kind) (cons_head e)))
+kinds_no k l a b e h = absurd (h (cc))
 
 -- a container's inside by its size
 inside_inj : (k l : ℕ) (b c : List ℕ) (x y r q : List Key) → around_keys k b x ++ r ≡ around_keys l c y ++ q → (b ≡ c) × (x ≡ y) × (r ≡ q)

@@ -1,18 +1,11 @@
 -- A token is the longest one of its own bytes, too.
-use mathlib.Core.Path.{◌≡◌, refl, ◌∙◌, ap}
-use mathlib.Core.Bool.{Bool, true, false}
-use mathlib.Core.List.{List, [], ◌∷◌}
-use Prim.Native.Nat.{ℕ, zero, suc, ◌≤◌, ◌<◌}
-use native.Mathlib.Omega.{arith}
-use lib.ListN.{length, take}
-use lib.Dec.{ltb}
-use Rattle.eon_laws.proofs.Facts.{clash, lt_of, le_of_not}
+use Rattle.std.proofs.Common.{◌≡◌, ℕ, zero, suc, ◌<◌, ◌≤◌, Bool, true, false, ltb, List, [], ◌∷◌, length, take, refl, ap, ◌∙◌, arith}
+use Rattle.eon_laws.proofs.Facts.{lt_of, le_of_not}
 use Rattle.eon_spec.specs.Utf8.{Character}
 use Rattle.eon_spec.specs.Regex.{Regex, is_never, nullable, deriv, longest}
 use Rattle.eon_spec.specs.declared.token_kind.TokenKind.{TokenKind}
 use Rattle.eon_spec.specs.declared.token_kind.TokenKind.TheVariants.{Invalid}
 use Rattle.eon_spec.specs.Token.{better, is_kind, Rule, ◌is◌, longest_rule}
-use Rattle.eon_laws.proofs.Apart.{}
 
 longest_le : (r : Regex) (cs : List Character) → longest r cs ≤ length cs
 unfolding longest
@@ -76,7 +69,7 @@ found_le ((k is r) ∷ rs) cs = go (ltb (longest_rule rs cs).1 (longest r cs)) r
 -- a valid token has a character
 pub found_some : (rs : List Rule) (cs : List Character) → is_kind (longest_rule rs cs).0 Invalid ≡ false → 0 < (longest_rule rs cs).1
 unfolding longest_rule
-found_some [] cs e = clash refl e
+found_some [] cs e = cc
 found_some ((k is r) ∷ rs) cs e = go (ltb (longest_rule rs cs).1 (longest r cs)) refl e (found_some rs cs)
   where
     go : (b : Bool) → ltb (longest_rule rs cs).1 (longest r cs) ≡ b → is_kind (better k (longest_rule rs cs) (longest r cs)).0 Invalid ≡ false → (is_kind (longest_rule rs cs).0 Invalid ≡ false → 0 < (longest_rule rs cs).1) → 0 < (better k (longest_rule rs cs) (longest r cs)).1

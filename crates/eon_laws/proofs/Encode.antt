@@ -1,17 +1,8 @@
-use Rattle.std.specs.Prelude.{Option, None, Some}
 -- Encoding undoes decoding: a character is the bytes of its code point, and a well-formed text those of its code points.
-use mathlib.Core.Path.{◌≡◌, refl, sym, ◌∙◌, ap}
-use mathlib.Core.Logic.{◌⊎◌, inl, inr}
-use mathlib.Core.Bool.{Bool, true, false}
-use mathlib.Core.List.{List, [], ◌∷◌, ◌++◌, map, append_assoc}
-use Prim.Native.Nat.{ℕ, suc, ◌+◌, ◌-◌, ◌*◌, ◌/◌, ◌%◌, ◌≤◌, ◌<◌}
-use native.Mathlib.Omega.{arith}
-use lib.ListN.{length}
-use lib.Dec.{leb}
-use borrow.Author.Tests.{lt-ltb, le-ltb}
+use Rattle.std.proofs.Common.{◌≡◌, ℕ, suc, ◌+◌, ◌-◌, ◌*◌, ◌/◌, ◌%◌, ◌<◌, ◌≤◌, Bool, true, false, ◌⊎◌, List, [], ◌∷◌, ◌++◌, map, length, Some, None, Option, sym, refl, ap, ◌∙◌, inl, inr, append_assoc, arith, le-ltb, lt-ltb}
 use Rattle.eon_spec.specs.Base.{within}
 use Rattle.eon_spec.specs.Utf8.{Range, ◌to◌, trailing, row_of, table37, fits, len_if, char_len, Character, chars, joined, code_point, decode, encode_char, encode, is_utf8, well_formed_len}
-use Rattle.eon_laws.proofs.Facts.{and_left, and_right, le_of, eq_of}
+use Rattle.eon_laws.proofs.Facts.{and_left, and_right, within_bounds, eq_of}
 use Rattle.eon_laws.proofs.Utf8.{chars_concat}
 use Rattle.eon_laws.proofs.Chars.{IsChar, AllChars, chars_are}
 use Rattle.eon_laws.proofs.Spaces.{InRows, row_in}
@@ -19,26 +10,23 @@ use Rattle.eon_laws.proofs.Spaces.{InRows, row_in}
 abbrev Between : ℕ → ℕ → ℕ → Type 0
 Between lo hi b = (lo ≤ b) × (b ≤ hi)
 
-bounds : (lo hi b : ℕ) → within lo hi b ≡ true → Between lo hi b
-bounds lo hi b e = (le_of lo b (and_left (leb lo b) (leb b hi) e), le_of b hi (and_right (leb lo b) (leb b hi) e))
-
 -- the bytes that a code point gets, by its size
 module _ (c : ℕ) where
-  pub sized_1 : c < 0x80 → encode_char c ≡ c ∷ []
+  pub encode_one : c < 0x80 → encode_char c ≡ c ∷ []
   unfolding encode_char
-  sized_1 h = rw (lt-ltb c 0x80 h, encode_char)
+  encode_one h = rw (lt-ltb c 0x80 h, encode_char)
 
-  pub sized_2 : 0x80 ≤ c → c < 0x800 → encode_char c ≡ (0xC0 + c / 64) ∷ (0x80 + c % 64) ∷ []
+  pub encode_two : 0x80 ≤ c → c < 0x800 → encode_char c ≡ (0xC0 + c / 64) ∷ (0x80 + c % 64) ∷ []
   unfolding encode_char
-  sized_2 h k = rw (le-ltb c 0x80 h, encode_char) (rw (lt-ltb c 0x800 k))
+  encode_two h k = rw (le-ltb c 0x80 h, encode_char) (rw (lt-ltb c 0x800 k))
 
-  pub sized_3 : 0x800 ≤ c → c < 0x10000 → encode_char c ≡ (0xE0 + c / 4096) ∷ (0x80 + (c / 64) % 64) ∷ (0x80 + c % 64) ∷ []
+  pub encode_three : 0x800 ≤ c → c < 0x10000 → encode_char c ≡ (0xE0 + c / 4096) ∷ (0x80 + (c / 64) % 64) ∷ (0x80 + c % 64) ∷ []
   unfolding encode_char
-  sized_3 h k = rw (le-ltb c 0x80 (omega arith), encode_char) (rw (le-ltb c 0x800 h) (rw (lt-ltb c 0x10000 k)))
+  encode_three h k = rw (le-ltb c 0x80 (omega arith), encode_char) (rw (le-ltb c 0x800 h) (rw (lt-ltb c 0x10000 k)))
 
-  pub sized_4 : 0x10000 ≤ c → encode_char c ≡ (0xF0 + c / 262144) ∷ (0x80 + (c / 4096) % 64) ∷ (0x80 + (c / 64) % 64) ∷ (0x80 + c % 64) ∷ []
+  pub encode_four : 0x10000 ≤ c → encode_char c ≡ (0xF0 + c / 262144) ∷ (0x80 + (c / 4096) % 64) ∷ (0x80 + (c / 64) % 64) ∷ (0x80 + c % 64) ∷ []
   unfolding encode_char
-  sized_4 h = rw (le-ltb c 0x80 (omega arith), encode_char) (rw (le-ltb c 0x800 (omega arith)) (rw (le-ltb c 0x10000 h)))
+  encode_four h = rw (le-ltb c 0x80 (omega arith), encode_char) (rw (le-ltb c 0x800 (omega arith)) (rw (le-ltb c 0x10000 h)))
 
 same_2 : (a b x y : ℕ) → a ≡ x → b ≡ y → a ∷ b ∷ [] ≡ x ∷ y ∷ []
 same_2 a b x y e f = rw (e, f)
@@ -51,27 +39,27 @@ same_4 a b c d w x y z e f g h = rw (e, f, g, h)
 
 -- a character by the bounds of its bytes
 two : (b x : ℕ) → Between 0xC2 0xDF b → Between 0x80 0xBF x → encode_char (code_point (b ∷ x ∷ [])) ≡ b ∷ x ∷ []
-two b x h k = sized_2 ((b - 0xC0) * 64 + (x - 0x80)) (omega arith) (omega arith) ∙ same_2 _ _ b x (omega arith) (omega arith)
+two b x h k = encode_two ((b - 0xC0) * 64 + (x - 0x80)) (omega arith) (omega arith) ∙ same_2 _ _ b x (omega arith) (omega arith)
 
 three : (b x y : ℕ) → Between 0xE0 0xEF b → Between 0x80 0xBF x → Between 0x80 0xBF y → (0xE1 ≤ b) ⊎ (0xA0 ≤ x) → encode_char (code_point (b ∷ x ∷ y ∷ [])) ≡ b ∷ x ∷ y ∷ []
-three b x y h k l (inl m) = sized_3 (((b - 0xE0) * 64 + (x - 0x80)) * 64 + (y - 0x80)) (omega arith) (omega arith) ∙ same_3 _ _ _ b x y (omega arith) (omega arith) (omega arith)
-three b x y h k l (inr m) = sized_3 (((b - 0xE0) * 64 + (x - 0x80)) * 64 + (y - 0x80)) (omega arith) (omega arith) ∙ same_3 _ _ _ b x y (omega arith) (omega arith) (omega arith)
+three b x y h k l (inl m) = encode_three (((b - 0xE0) * 64 + (x - 0x80)) * 64 + (y - 0x80)) (omega arith) (omega arith) ∙ same_3 _ _ _ b x y (omega arith) (omega arith) (omega arith)
+three b x y h k l (inr m) = encode_three (((b - 0xE0) * 64 + (x - 0x80)) * 64 + (y - 0x80)) (omega arith) (omega arith) ∙ same_3 _ _ _ b x y (omega arith) (omega arith) (omega arith)
 
 four : (b x y z : ℕ) → Between 0xF0 0xF4 b → Between 0x80 0xBF x → Between 0x80 0xBF y → Between 0x80 0xBF z → (0xF1 ≤ b) ⊎ (0x90 ≤ x) → encode_char (code_point (b ∷ x ∷ y ∷ z ∷ [])) ≡ b ∷ x ∷ y ∷ z ∷ []
 four b x y z h k l m (inl n) =
-    sized_4 ((((b - 0xF0) * 64 + (x - 0x80)) * 64 + (y - 0x80)) * 64 + (z - 0x80)) (omega arith) ∙ same_4 _ _ _ _ b x y z (omega arith) (omega arith) (omega arith) (omega arith)
+    encode_four ((((b - 0xF0) * 64 + (x - 0x80)) * 64 + (y - 0x80)) * 64 + (z - 0x80)) (omega arith) ∙ same_4 _ _ _ _ b x y z (omega arith) (omega arith) (omega arith) (omega arith)
 four b x y z h k l m (inr n) =
-    sized_4 ((((b - 0xF0) * 64 + (x - 0x80)) * 64 + (y - 0x80)) * 64 + (z - 0x80)) (omega arith) ∙ same_4 _ _ _ _ b x y z (omega arith) (omega arith) (omega arith) (omega arith)
+    encode_four ((((b - 0xF0) * 64 + (x - 0x80)) * 64 + (y - 0x80)) * 64 + (z - 0x80)) (omega arith) ∙ same_4 _ _ _ _ b x y z (omega arith) (omega arith) (omega arith) (omega arith)
 
 -- bytes that fit as many ranges
 fit_1 : (lo hi : ℕ) (s : List ℕ) → fits (lo to hi ∷ []) s ≡ true → 1 ≡ length s → (x : ℕ) × (s ≡ x ∷ []) × Between lo hi x
 fit_1 lo hi [] e l = absurd (omega arith)
-fit_1 lo hi (x ∷ []) e l = (x, refl, bounds lo hi x (and_left (within lo hi x) true e))
+fit_1 lo hi (x ∷ []) e l = (x, refl, within_bounds lo hi x (and_left (within lo hi x) true e))
 fit_1 lo hi (x ∷ y ∷ s) e l = absurd (omega arith)
 
 fit_more : (lo hi : ℕ) (rs : List Range) (s : List ℕ) (n : ℕ) → fits (lo to hi ∷ rs) s ≡ true → suc n ≡ length s → (x : ℕ) × (t : List ℕ) × (s ≡ x ∷ t) × Between lo hi x × (fits rs t ≡ true) × (n ≡ length t)
 fit_more lo hi rs [] n e l = absurd (omega arith)
-fit_more lo hi rs (x ∷ t) n e l = (x, t, refl, bounds lo hi x (and_left (within lo hi x) (fits rs t) e), and_right (within lo hi x) (fits rs t) e, omega arith)
+fit_more lo hi rs (x ∷ t) n e l = (x, t, refl, within_bounds lo hi x (and_left (within lo hi x) (fits rs t) e), and_right (within lo hi x) (fits rs t) e, omega arith)
 
 -- the rows of two, three and four bytes
 Encodes : ℕ → List ℕ → Type 0
@@ -111,15 +99,15 @@ none_left (x ∷ s) l = absurd (omega arith)
 -- row by row of Table 3-7
 by_row : (b : ℕ) (s : List ℕ) (m : List Range) → InRows table37 b m → fits m s ≡ true → length m ≡ length s → Encodes b s
 unfolding Encodes
-by_row b s m (inl p) f l = rw (none_left s (p.1 ∙ l)) (sized_1 b (omega (arith, (bounds 0x00 0x7F b p.0).1)))
-by_row b s m (inr (inl p)) f l = row_2 b s (bounds 0xC2 0xDF b p.0) (p.2 s f) (p.1 ∙ l)
-by_row b s m (inr (inr (inl p))) f l = let h = bounds 0xE0 0xE0 b p.0 in row_3 b 0xA0 0xBF s (omega arith, omega arith) (omega arith) (omega arith) (inr (omega arith)) (p.2 s f) (p.1 ∙ l)
-by_row b s m (inr (inr (inr (inl p)))) f l = let h = bounds 0xE1 0xEC b p.0 in row_3 b 0x80 0xBF s (omega arith, omega arith) (omega arith) (omega arith) (inl h.0) (p.2 s f) (p.1 ∙ l)
-by_row b s m (inr (inr (inr (inr (inl p))))) f l = let h = bounds 0xED 0xED b p.0 in row_3 b 0x80 0x9F s (omega arith, omega arith) (omega arith) (omega arith) (inl (omega arith)) (p.2 s f) (p.1 ∙ l)
-by_row b s m (inr (inr (inr (inr (inr (inl p)))))) f l = let h = bounds 0xEE 0xEF b p.0 in row_3 b 0x80 0xBF s (omega arith, omega arith) (omega arith) (omega arith) (inl (omega arith)) (p.2 s f) (p.1 ∙ l)
-by_row b s m (inr (inr (inr (inr (inr (inr (inl p))))))) f l = let h = bounds 0xF0 0xF0 b p.0 in row_4 b 0x90 0xBF s (omega arith, omega arith) (omega arith) (omega arith) (inr (omega arith)) (p.2 s f) (p.1 ∙ l)
-by_row b s m (inr (inr (inr (inr (inr (inr (inr (inl p)))))))) f l = let h = bounds 0xF1 0xF3 b p.0 in row_4 b 0x80 0xBF s (omega arith, omega arith) (omega arith) (omega arith) (inl h.0) (p.2 s f) (p.1 ∙ l)
-by_row b s m (inr (inr (inr (inr (inr (inr (inr (inr (inl p))))))))) f l = let h = bounds 0xF4 0xF4 b p.0 in row_4 b 0x80 0x8F s (omega arith, omega arith) (omega arith) (omega arith) (inl (omega arith)) (p.2 s f) (p.1 ∙ l)
+by_row b s m (inl p) f l = rw (none_left s (p.1 ∙ l)) (encode_one b (omega (arith, (within_bounds 0x00 0x7F b p.0).1)))
+by_row b s m (inr (inl p)) f l = row_2 b s (within_bounds 0xC2 0xDF b p.0) (p.2 s f) (p.1 ∙ l)
+by_row b s m (inr (inr (inl p))) f l = let h = within_bounds 0xE0 0xE0 b p.0 in row_3 b 0xA0 0xBF s (omega arith, omega arith) (omega arith) (omega arith) (inr (omega arith)) (p.2 s f) (p.1 ∙ l)
+by_row b s m (inr (inr (inr (inl p)))) f l = let h = within_bounds 0xE1 0xEC b p.0 in row_3 b 0x80 0xBF s (omega arith, omega arith) (omega arith) (omega arith) (inl h.0) (p.2 s f) (p.1 ∙ l)
+by_row b s m (inr (inr (inr (inr (inl p))))) f l = let h = within_bounds 0xED 0xED b p.0 in row_3 b 0x80 0x9F s (omega arith, omega arith) (omega arith) (omega arith) (inl (omega arith)) (p.2 s f) (p.1 ∙ l)
+by_row b s m (inr (inr (inr (inr (inr (inl p)))))) f l = let h = within_bounds 0xEE 0xEF b p.0 in row_3 b 0x80 0xBF s (omega arith, omega arith) (omega arith) (omega arith) (inl (omega arith)) (p.2 s f) (p.1 ∙ l)
+by_row b s m (inr (inr (inr (inr (inr (inr (inl p))))))) f l = let h = within_bounds 0xF0 0xF0 b p.0 in row_4 b 0x90 0xBF s (omega arith, omega arith) (omega arith) (omega arith) (inr (omega arith)) (p.2 s f) (p.1 ∙ l)
+by_row b s m (inr (inr (inr (inr (inr (inr (inr (inl p)))))))) f l = let h = within_bounds 0xF1 0xF3 b p.0 in row_4 b 0x80 0xBF s (omega arith, omega arith) (omega arith) (omega arith) (inl h.0) (p.2 s f) (p.1 ∙ l)
+by_row b s m (inr (inr (inr (inr (inr (inr (inr (inr (inl p))))))))) f l = let h = within_bounds 0xF4 0xF4 b p.0 in row_4 b 0x80 0x8F s (omega arith, omega arith) (omega arith) (omega arith) (inl (omega arith)) (p.2 s f) (p.1 ∙ l)
 by_row b s m (inr (inr (inr (inr (inr (inr (inr (inr (inr p))))))))) f l = absurd p
 
 pub char_encoded : (c : Character) → IsChar c → encode_char (code_point c) ≡ c

@@ -1,29 +1,17 @@
--- Facts that tests say, for the laws.
-use mathlib.Core.Path.{◌≡◌, refl, sym, ◌∙◌}
-use mathlib.Core.Bool.{Bool, true, false, ◌&&◌, ◌||◌}
-use mathlib.Core.List.{List, [], ◌∷◌, ◌++◌}
-use Prim.Native.Nat.{ℕ, ◌≤◌, ◌<◌}
-use native.Mathlib.Omega.{arith}
-use Rattle.eon_spec.specs.Base.{elem, eq_list}
-use lib.Dec.{leb, ltb, eqb, T, leb→le, ltb→lt, nltb→le, eqb→eq, eqb_refl}
+-- Facts that tests say, for the laws. Those that the library has go by short names.
+use Rattle.std.proofs.Common.{◌≡◌, ℕ, ◌≤◌, Bool, true, false, ◌&&◌, ◌||◌, T, eqb, leb, List, [], ◌∷◌, ◌++◌, sym, refl, ◌∙◌, ⊎_elim, eq-eqb, ne_eqb}
+use Rattle.std.proofs.lemmas.Bool.{and_parts, or_parts, both_ways, cases_eq}
+use Rattle.eon_spec.specs.Base.{within, elem, eq_list}
+pub use Rattle.std.proofs.lemmas.Bool.{or_left, or_right, false_from_ne_true as false_of, leb-true as le_of, ltb-true as lt_of, eqb-true as eq_of, ltb-false as le_of_not, le-ltb as ltb-false}
 
 pub clash : {A : Type 0} {b : Bool} → b ≡ true → b ≡ false → A
-clash p q = absurd (let y : ◌≡◌ {A = ℕ} 0 1 = cc in omega arith)
+clash {b = b} p q = absurd (both_ways b q p)
 
 pub and_left : (x y : Bool) → x && y ≡ true → x ≡ true
-and_left true y e = refl
-and_left false y e = e
+and_left x y e = (and_parts x y e).0
 
 pub and_right : (x y : Bool) → x && y ≡ true → y ≡ true
-and_right true y e = e
-and_right false y e = clash e refl
-
-pub or_left : (x y : Bool) → x ≡ true → x || y ≡ true
-or_left x y e = rw e
-
-pub or_right : (x y : Bool) → y ≡ true → x || y ≡ true
-or_right true y e = refl
-or_right false y e = e
+and_right x y e = (and_parts x y e).1
 
 pub or-false : (b : Bool) → b || false ≡ true → b ≡ true
 or-false true e = refl
@@ -31,59 +19,39 @@ or-false false e = e
 
 -- no test of a row passes
 pub nor_left : (x y : Bool) → x || y ≡ false → x ≡ false
-nor_left true y e = e
-nor_left false y e = refl
+nor_left x y e = (or_parts x y e).0
 
 pub nor_right : (x y : Bool) → x || y ≡ false → y ≡ false
-nor_right true y e = clash refl e
-nor_right false y e = e
+nor_right x y e = (or_parts x y e).1
 
 pub true_of : (b : Bool) → T b → b ≡ true
 true_of true t = refl
 true_of false t = absurd t
 
-pub false_of : (b : Bool) → (b ≡ true → ⊥) → b ≡ false
-false_of true f = absurd (f refl)
-false_of false f = refl
-
-truth : {b : Bool} → b ≡ true → T b
-truth e = rw e tt
-
-pub le_of : (m n : ℕ) → leb m n ≡ true → m ≤ n
-le_of m n e = leb→le m n (truth e)
-
-pub lt_of : (m n : ℕ) → ltb m n ≡ true → m < n
-lt_of m n e = ltb→lt m n (truth e)
-
-pub eq_of : (m n : ℕ) → eqb m n ≡ true → m ≡ n
-eq_of m n e = eqb→eq m n (truth e)
-
 pub eqb_same : (n : ℕ) → eqb n n ≡ true
-eqb_same n = true_of (eqb n n) (eqb_refl n)
+eqb_same n = eq-eqb n n refl
 
-pub ltb-false : (m n : ℕ) → n ≤ m → ltb m n ≡ false
-ltb-false m n h = false_of (ltb m n) λ e. omega (arith, lt_of m n e)
-
-pub le_of_not : (m n : ℕ) → ltb m n ≡ false → n ≤ m
-le_of_not m n e = nltb→le m n (rw e tt)
+pub within_bounds : (lo hi b : ℕ) → within lo hi b ≡ true → (lo ≤ b) × (b ≤ hi)
+within_bounds lo hi b e = let h = and_parts (leb lo b) (leb b hi) e in (le_of lo b h.0, le_of b hi h.1)
 
 pub eqb_sym : (x y : ℕ) → eqb x y ≡ eqb y x
-eqb_sym x y = go (eqb x y) (eqb y x) refl refl
-  where
-    go : (a b : Bool) → eqb x y ≡ a → eqb y x ≡ b → eqb x y ≡ eqb y x
-    go true b e f = rw (eq_of x y e)
-    go false true e f = rw (eq_of y x f)
-    go false false e f = e ∙ sym f
+eqb_sym x y = ⊎_elim (λ e. rw e) (λ n. ne_eqb x y n ∙ sym (ne_eqb y x (λ e. n (sym e)))) (cases_eq x y)
 
--- equal lists
+-- the parts of equal lists
+pub cons_head : {A : Type 0} {x y : A} {s t : List A} → x ∷ s ≡ y ∷ t → x ≡ y
+cons_head e = cc
+
+pub cons_tail : {A : Type 0} {x y : A} {s t : List A} → x ∷ s ≡ y ∷ t → s ≡ t
+cons_tail e = cc
+
 pub list_same : (s : List ℕ) → eq_list s s ≡ true
 list_same [] = refl
 list_same (x ∷ s) = rw (eqb_same x) (list_same s)
 
 pub list_eq : (s t : List ℕ) → eq_list s t ≡ true → s ≡ t
 list_eq [] [] e = refl
-list_eq [] (y ∷ t) e = clash e refl
-list_eq (x ∷ s) [] e = clash e refl
+list_eq [] (y ∷ t) e = cc
+list_eq (x ∷ s) [] e = cc
 list_eq (x ∷ s) (y ∷ t) e = rw (eq_of x y (and_left (eqb x y) (eq_list s t) e), list_eq s t (and_right (eqb x y) (eq_list s t) e))
 
 -- what holds of both branches holds of the choice

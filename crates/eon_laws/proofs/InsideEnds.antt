@@ -1,8 +1,5 @@
 -- An inside ends before a closing token or at the text's end: so behind the whole text stands "one further token, always a closing one".
-use mathlib.Core.Path.{◌≡◌, refl}
-use mathlib.Core.Bool.{Bool, true, false}
-use Prim.Native.Nat.{ℕ, zero, suc}
-use lib.ListN.{length}
+use Rattle.std.proofs.Common.{◌≡◌, ℕ, zero, suc, Bool, true, false, length, refl}
 use Rattle.eon_spec.specs.declared.token_kind.TokenKind.TheVariants.{Colon}
 use Rattle.eon_spec.specs.Parse.{Cursor, rest, Read, read, refused, Reader, bind, list_contents, map_contents, list_inside, map_inside, comments_at, consume_token, at_end, after_comma}
 

@@ -1,18 +1,11 @@
 -- "A refusal writes nothing": whatever a call was to write, a refusal leaves the lent memory as it was.
-use mathlib.Core.Path.{◌≡◌, refl, sym, ap}
-use mathlib.Core.Logic.{◌⊎◌, inl, inr}
-use mathlib.Core.Bool.{Bool, true, false, ◌&&◌}
-use mathlib.Core.List.{List}
-use Prim.Native.Nat.{ℕ}
-use native.Mathlib.Omega.{arith}
-use lib.ListN.{length}
-use lib.Dec.{leb}
+use Rattle.std.proofs.Common.{◌≡◌, ℕ, Bool, true, false, ◌&&◌, leb, ◌⊎◌, List, length, sym, refl, ap, inl, inr}
 use Rattle.eon_spec.specs.Refused.{Refusal}
 use Rattle.eon_spec.specs.Calls.{Outcome, done, refused_with, nowhere, fill, fill_both}
 
 -- an answer is no refusal
 pub answers_not : {A B : Type 0} (a : A) (r : Refusal) → done a ≡ refused_with r → B
-answers_not a r e = absurd (let z : ◌≡◌ {A = ℕ} 0 1 = cc in omega arith)
+answers_not a r e = cc
 
 pub fill_keeps : {A E : Type 0} (old : List E) (x : Outcome (A × List E)) (r : Refusal) → (fill old x).answer ≡ refused_with r → (fill old x).memory ≡ old
 unfolding fill

@@ -1,13 +1,6 @@
 -- Which numbers refuse a text, alone and with its table: 1 and 2 before it is read, 3 to 13 in reading, 15 behind them. What a text gives,
 -- by cases: a refusal by one of these, or what is known of an accepted text.
-use mathlib.Core.Path.{◌≡◌, refl, sym, subst}
-use mathlib.Core.Logic.{◌⊎◌, inl, inr}
-use mathlib.Core.Bool.{Bool, true, false}
-use mathlib.Core.List.{List}
-use Prim.Native.Nat.{ℕ, ◌≤◌}
-use native.Mathlib.Omega.{arith}
-use lib.ListN.{length}
-use lib.Dec.{ltb}
+use Rattle.std.proofs.Common.{◌≡◌, ℕ, ◌≤◌, Bool, true, false, ltb, ◌⊎◌, List, length, sym, refl, ap, ◌∙◌, subst, inl, inr, arith}
 use Rattle.eon_spec.specs.Refused.{Refusal}
 use Rattle.eon_spec.specs.Utf8.{is_utf8}
 use Rattle.eon_spec.specs.Token.{tokens}
@@ -53,6 +46,10 @@ module _ (s : List ℕ) (P : Outcome TokenTree → Type 0) (accepts : is_utf8 s 
       go : (x : Outcome TokenTree) → P x → P (then x λ t. elim (is_finished table t) [ true ↦ done t | false ↦ refused_with (nowhere 15) ])
       go (done t) h = either (is_finished table t) P _ _ (λ e. h) (λ e. refuses (nowhere 15) (inr refl))
       go (refused_with r) h = h
+
+-- a text that is read is well-formed, and parses
+pub read_done : (s : List ℕ) (t : TokenTree) → read_text s ≡ done t → (is_utf8 s ≡ true) × (parse s ≡ parsed t)
+read_done s t = read_cases s (λ x. x ≡ done t → (is_utf8 s ≡ true) × (parse s ≡ parsed t)) (λ formed u p e. (formed, p ∙ ap parsed (cc))) λ r o e. cc
 
 -- a text that is read has no more bytes than are allowed
 pub short_text : (s : List ℕ) (t : TokenTree) → read_text s ≡ done t → length s ≤ 65535

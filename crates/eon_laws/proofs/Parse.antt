@@ -1,12 +1,5 @@
 -- Reading never runs out of fuel, and each of its refusals has a number from 3 to 13.
-use mathlib.Core.Path.{◌≡◌, refl}
-use mathlib.Core.Bool.{Bool, true, false, ◌&&◌, not, cond}
-use mathlib.Core.List.{List, [], ◌∷◌}
-use Prim.Native.Nat.{ℕ, zero, suc, ◌≤◌, ◌<◌}
-use native.Mathlib.Omega.{arith}
-use native.Mathlib.Nat.{not-suc-le-zero}
-use lib.ListN.{length}
-use lib.Dec.{ltb}
+use Rattle.std.proofs.Common.{◌≡◌, ℕ, zero, suc, ◌<◌, ◌≤◌, Bool, true, false, cond, not, ◌&&◌, ltb, List, [], ◌∷◌, length, refl, not-suc-le-zero, arith}
 use Rattle.eon_spec.specs.declared.token_kind.TokenKind.{TokenKind}
 use Rattle.eon_spec.specs.declared.token_kind.TokenKind.TheVariants.{Invalid, Comment, OpenList, CloseList, OpenBrace, CloseBrace, OpenParen, CloseParen, Colon, Comma, Identifier, Number, DoubleQuotedString, SingleQuotedString, MultilineBasicString, MultilineLiteralString}
 use Rattle.eon_spec.specs.Token.{is_kind, Token}
@@ -161,7 +154,7 @@ module _ (value : Reader) (pr : Progresses value) where
   value_good : (k : TokenKind) (t : Token) (c : Cursor) → is_kind k Comment ≡ false → Good (length (rest c)) (value_of value k t c)
   unfolding value_of
   value_good Invalid t c n = (omega arith, omega arith)
-  value_good Comment t c n = absurd (let y : ◌≡◌ {A = ℕ} 0 1 = cc in omega arith)
+  value_good Comment t c n = cc
   value_good OpenList t c n =
       bind_good (length (rest c)) (length (rest c)) (list_inside value c) _ (list_inside_good c) λ l c1 h1.
       bind_good (length (rest c1)) (length (rest c)) (consume_token CloseList c1) _ (consume_good CloseList c1) λ _ c2 h2.

@@ -1,19 +1,11 @@
 -- Where tokens stand: one behind the other, each on character boundaries within the text, of at least one byte.
-use mathlib.Core.Path.{◌≡◌, refl, sym, ◌∙◌, ap}
-use mathlib.Core.Bool.{Bool, true, false, ◌||◌}
-use mathlib.Core.List.{List, [], ◌∷◌, ◌++◌, append_assoc}
-use Prim.Native.Nat.{ℕ, zero, suc, pred, ◌+◌, ◌-◌, ◌≤◌, ◌<◌}
-use native.Mathlib.Omega.{arith}
-use lib.ListN.{length, take, drop, length-append}
-use lib.Seq.{take-add}
-use lib.Dec.{eqb}
-use Rattle.eon_spec.specs.Utf8.{Character, Boundary, chars, joined, code_point, is_utf8, well_formed_len}
+use Rattle.std.proofs.Common.{◌≡◌, ℕ, zero, suc, pred, ◌+◌, ◌-◌, ◌<◌, ◌≤◌, Bool, true, false, ◌||◌, eqb, List, [], ◌∷◌, ◌++◌, length, take, drop, sym, refl, ap, ◌∙◌, append_assoc, arith, length-append, take-add, drop-drop, add-one}
+use Rattle.eon_spec.specs.Utf8.{Character, Boundary, chars, joined, code_point, is_utf8}
 use Rattle.eon_spec.specs.declared.token_kind.TokenKind.{TokenKind}
 use Rattle.eon_spec.specs.Token.{is_space, longest_rule, rules, Token, placed, tokens, tokens_from}
 use Rattle.eon_spec.specs.Tree.{Span}
 use Rattle.eon_spec.specs.Parse.{span_of}
-use Rattle.eon_laws.proofs.Facts.{eq_of}
-use Rattle.eon_laws.proofs.Utf8.{chars_concat}
+use Rattle.eon_laws.proofs.Utf8.{joined_is}
 use Rattle.eon_laws.proofs.Chars.{IsChar, AllChars, chars_are}
 use Rattle.eon_laws.proofs.Spaces.{space_length}
 use Rattle.eon_laws.proofs.Words.{joined_split, slice_at}
@@ -60,10 +52,7 @@ char_byte (b ∷ s) h = omega arith
 
 -- the characters behind the first n: the next of them, and those behind it
 drop_next : (n : ℕ) (all : List Character) (c : Character) (cs : List Character) → c ∷ cs ≡ drop n all → cs ≡ drop (suc n) all
-drop_next zero [] c cs e = absurd (let z : ◌≡◌ {A = ℕ} 0 1 = cc in omega arith)
-drop_next zero (a ∷ all) c cs e = cc
-drop_next (suc n) [] c cs e = absurd (let z : ◌≡◌ {A = ℕ} 0 1 = cc in omega arith)
-drop_next (suc n) (a ∷ all) c cs e = drop_next n all c cs e
+drop_next n all c cs e = ap (drop 1) e ∙ drop-drop 1 n all ∙ ap (λ k. drop k all) (add-one n)
 
 module _ (s : List ℕ) (formed : joined (chars s) ≡ s) where
   front : ℕ → List ℕ
@@ -128,11 +117,7 @@ module _ (s : List ℕ) (formed : joined (chars s) ≡ s) where
           )
 
 module _ (s : List ℕ) (formed : is_utf8 s ≡ true) where
-  joined_is : joined (chars s) ≡ s
-  unfolding is_utf8 well_formed_len chars
-  joined_is = chars_concat 0 s (omega arith) (eq_of (well_formed_len s) (length s) formed)
-
   -- "every token starts and ends on a character boundary within the text and takes at least one byte"
   pub tokens_stand : Row s 0 (tokens s)
   unfolding tokens chars front
-  tokens_stand = row_from s joined_is 0 0 0 false (chars s) 0 (chars_are 0 s) refl refl refl
+  tokens_stand = row_from s (joined_is s formed) 0 0 0 false (chars s) 0 (chars_are 0 s) refl refl refl

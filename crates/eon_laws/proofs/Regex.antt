@@ -1,12 +1,7 @@
 -- What a regular expression matches, and that derivatives say the same.
-use mathlib.Core.Path.{◌≡◌, refl, sym, ◌∙◌, ap, subst}
-use mathlib.Core.Logic.{◌⊎◌, inl, inr, ◌↔◌}
-use mathlib.Core.Bool.{Bool, true, false, ◌&&◌, ◌||◌}
-use mathlib.Core.List.{List, [], ◌∷◌, ◌++◌, append_assoc}
-use Prim.Native.Nat.{ℕ, zero, suc, ◌≤◌, ◌<◌}
-use native.Mathlib.Omega.{arith}
-use lib.ListN.{length, take}
-use Rattle.eon_laws.proofs.Facts.{clash, and_left, and_right}
+use Rattle.std.proofs.Common.{◌≡◌, ℕ, zero, suc, ◌<◌, ◌≤◌, Bool, true, false, ◌&&◌, ◌⊎◌, ◌↔◌, List, [], ◌∷◌, ◌++◌, length, take, sym, refl, ap, ◌∙◌, subst, inl, inr, ⊎_elim, append_assoc, arith}
+use Rattle.std.proofs.lemmas.Bool.{or_cases}
+use Rattle.eon_laws.proofs.Facts.{clash, cons_head, cons_tail, and_left, and_right, or_left, or_right}
 use Rattle.eon_spec.specs.Utf8.{Character}
 use Rattle.eon_spec.specs.Regex.{Regex, never, empty, one_of, none_of, ◌then◌, ◌or◌, many, in_class, nullable, is_never, and_then, or_else, deriv, longest}
 
@@ -28,49 +23,27 @@ Matches (a then b) s = (u : List Character) × (v : List Character) × (s ≡ u 
 Matches (a or b) s = Matches a s ⊎ Matches b s
 Matches (many a) s = (ps : List (List Character)) × (s ≡ joined ps) × Each (Matches a) ps
 
-false_true : {A : Type 0} → false ≡ true → A
-false_true e = clash e refl
-
-nil_cons : {A : Type 0} {c : Character} {s : List Character} → [] ≡ c ∷ s → A
-nil_cons e = absurd (let y : ◌≡◌ {A = ℕ} 0 1 = cc in omega arith)
-
-or_right : (x y : Bool) → x || y ≡ true → x ≡ false → y ≡ true
-or_right true y e f = clash refl f
-or_right false y e f = e
-
 nullable_sound : (r : Regex) → nullable r ≡ true → Matches r []
-nullable_sound never e = false_true e
+nullable_sound never e = cc
 nullable_sound empty e = refl
-nullable_sound (one_of k) e = false_true e
-nullable_sound (none_of k) e = false_true e
+nullable_sound (one_of k) e = cc
+nullable_sound (none_of k) e = cc
 nullable_sound (a then b) e = ([], [], refl, nullable_sound a (and_left (nullable a) (nullable b) e), nullable_sound b (and_right (nullable a) (nullable b) e))
-nullable_sound (a or b) e = go (nullable a) refl (nullable_sound a) (nullable_sound b)
-  where
-    go : (x : Bool) → nullable a ≡ x → (nullable a ≡ true → Matches a []) → (nullable b ≡ true → Matches b []) → Matches a [] ⊎ Matches b []
-    go true p f g = inl (f p)
-    go false p f g = inr (g (or_right (nullable a) (nullable b) e p))
+nullable_sound (a or b) e = ⊎_elim (λ p. inl (nullable_sound a p)) (λ p. inr (nullable_sound b p)) (or_cases (nullable a) (nullable b) e)
 nullable_sound (many a) e = ([], refl, tt)
 
 pub nullable_complete : (r : Regex) → Matches r [] → nullable r ≡ true
 nullable_complete never m = absurd m
 nullable_complete empty m = refl
-nullable_complete (one_of k) m = nil_cons m.1
-nullable_complete (none_of k) m = nil_cons m.1
+nullable_complete (one_of k) m = cc
+nullable_complete (none_of k) m = cc
 nullable_complete (a then b) m = go m.0 m.1 m.2 m.3 m.4 (nullable_complete a) (nullable_complete b)
   where
     go : (u v : List Character) → [] ≡ u ++ v → Matches a u → Matches b v → (Matches a [] → nullable a ≡ true) → (Matches b [] → nullable b ≡ true) → nullable a && nullable b ≡ true
     go [] [] e ma mb f g = rw (f ma, g mb)
-    go [] (x ∷ v) e ma mb f g = nil_cons e
-    go (x ∷ u) v e ma mb f g = nil_cons e
-nullable_complete (a or b) m = go m (nullable_complete a) (nullable_complete b)
-  where
-    or_true : (x y : Bool) → y ≡ true → x || y ≡ true
-    or_true true y e = refl
-    or_true false y e = e
-
-    go : Matches a [] ⊎ Matches b [] → (Matches a [] → nullable a ≡ true) → (Matches b [] → nullable b ≡ true) → nullable a || nullable b ≡ true
-    go (inl x) f g = rw (f x)
-    go (inr y) f g = or_true (nullable a) (nullable b) (g y)
+    go [] (x ∷ v) e ma mb f g = cc
+    go (x ∷ u) v e ma mb f g = cc
+nullable_complete (a or b) m = ⊎_elim (λ x. or_left (nullable a) (nullable b) (nullable_complete a x)) (λ y. or_right (nullable a) (nullable b) (nullable_complete b y)) m
 nullable_complete (many a) m = refl
 
 and_then_sound : (a b : Regex) (s : List Character) → Matches (and_then a b) s → Matches (a then b) s
@@ -97,12 +70,12 @@ and_then_complete (many x) b s m = m
 
 never_absurd : (a : Regex) (s : List Character) → is_never a ≡ true → Matches a s → ⊥
 never_absurd never s e m = m
-never_absurd empty s e m = false_true e
-never_absurd (one_of k) s e m = false_true e
-never_absurd (none_of k) s e m = false_true e
-never_absurd (a then b) s e m = false_true e
-never_absurd (a or b) s e m = false_true e
-never_absurd (many a) s e m = false_true e
+never_absurd empty s e m = cc
+never_absurd (one_of k) s e m = cc
+never_absurd (none_of k) s e m = cc
+never_absurd (a then b) s e m = cc
+never_absurd (a or b) s e m = cc
+never_absurd (many a) s e m = cc
 
 or_else_sound : (a b : Regex) (s : List Character) → Matches (or_else a b) s → Matches a s ⊎ Matches b s
 or_else_sound a b s = go (is_never a) (is_never b) refl refl
@@ -122,12 +95,6 @@ or_else_complete a b s = go (is_never a) (is_never b) refl refl
     go false true e f (inr m) = absurd (never_absurd b s f m)
     go false false e f (inl m) = rw (e, or_else, f) (inl m)
     go false false e f (inr m) = rw (e, or_else, f) (inr m)
-
-cons_inj_head : {c d : Character} {s t : List Character} → c ∷ s ≡ d ∷ t → d ≡ c
-cons_inj_head e = cc
-
-cons_inj_tail : {c d : Character} {s t : List Character} → c ∷ s ≡ d ∷ t → s ≡ t
-cons_inj_tail e = cc
 
 -- what the derivative matches is what r matches behind c
 deriv_sound : (r : Regex) (c : Character) (s : List Character) → Matches (deriv r c) s → Matches r (c ∷ s)
@@ -168,17 +135,17 @@ deriv_sound (many a) c s m =
 pub deriv_complete : (r : Regex) (c : Character) (s : List Character) → Matches r (c ∷ s) → Matches (deriv r c) s
 unfolding deriv
 deriv_complete never c s m = m
-deriv_complete empty c s m = nil_cons (sym m)
+deriv_complete empty c s m = cc
 deriv_complete (one_of k) c s m =
-    let e : in_class k c ≡ true = subst (λ (x : Character). in_class k x ≡ true) (cons_inj_head m.1) m.2 in
-    rw (e, deriv) (cons_inj_tail m.1)
+    let e : in_class k c ≡ true = subst (λ (x : Character). in_class k x ≡ true) (sym (cons_head m.1)) m.2 in
+    rw (e, deriv) (cons_tail m.1)
 deriv_complete (none_of k) c s m =
-    let e : in_class k c ≡ false = subst (λ (x : Character). in_class k x ≡ false) (cons_inj_head m.1) m.2 in
-    rw (e, deriv) (cons_inj_tail m.1)
+    let e : in_class k c ≡ false = subst (λ (x : Character). in_class k x ≡ false) (sym (cons_head m.1)) m.2 in
+    rw (e, deriv) (cons_tail m.1)
 deriv_complete (a then b) c s m = go m.0 m.1 m.2 m.3 m.4 (nullable a) refl (deriv_complete a c) (deriv_complete b c)
   where
     first : (u v : List Character) (d : Character) → c ∷ s ≡ d ∷ (u ++ v) → Matches a (d ∷ u) → Matches b v → ((u : List Character) → Matches a (c ∷ u) → Matches (deriv a c) u) → Matches (and_then (deriv a c) b) s
-    first u v d e ma mb f = and_then_complete (deriv a c) b s (u, v, cons_inj_tail e, f u (subst (λ (x : Character). Matches a (x ∷ u)) (cons_inj_head e) ma), mb)
+    first u v d e ma mb f = and_then_complete (deriv a c) b s (u, v, cons_tail e, f u (subst (λ (x : Character). Matches a (x ∷ u)) (sym (cons_head e)) ma), mb)
 
     go : (u v : List Character) → c ∷ s ≡ u ++ v → Matches a u → Matches b v → (x : Bool) → nullable a ≡ x → ((u : List Character) → Matches a (c ∷ u) → Matches (deriv a c) u) → ((u : List Character) → Matches b (c ∷ u) → Matches (deriv b c) u) → Matches (deriv (a then b) c) s
     go [] v e ma mb true p f g = rw (p, deriv) (or_else_complete (and_then (deriv a c) b) (deriv b c) s (inr (g s (subst (λ t. Matches b t) (sym e) mb))))
@@ -193,9 +160,9 @@ deriv_complete (a or b) c s m = or_else_complete (deriv a c) (deriv b c) s (go m
 deriv_complete (many a) c s m = and_then_complete (deriv a c) (many a) s (go m.0 m.1 m.2 (deriv_complete a c))
   where
     go : (ps : List (List Character)) → c ∷ s ≡ joined ps → Each (Matches a) ps → ((u : List Character) → Matches a (c ∷ u) → Matches (deriv a c) u) → Matches (deriv a c then many a) s
-    go [] e all f = nil_cons (sym e)
+    go [] e all f = cc
     go ([] ∷ ps) e all f = go ps e all.1 f
-    go ((d ∷ u) ∷ ps) e all f = (u, joined ps, cons_inj_tail e, f u (subst (λ (x : Character). Matches a (x ∷ u)) (cons_inj_head e) all.0), (ps, refl, all.1))
+    go ((d ∷ u) ∷ ps) e all f = (u, joined ps, cons_tail e, f u (subst (λ (x : Character). Matches a (x ∷ u)) (sym (cons_head e)) all.0), (ps, refl, all.1))
 
 -- what `longest` counts is matched
 pub longest_matches : (r : Regex) (cs : List Character) (n : ℕ) → longest r cs ≡ suc n → Matches r (take (suc n) cs)

@@ -1,12 +1,5 @@
 -- Memory that is never too short: with so much room for its text, a call answers what the text gives, and 14 is no part of that.
-use mathlib.Core.Path.{◌≡◌, refl, ap}
-use mathlib.Core.Logic.{inl, inr}
-use mathlib.Core.Bool.{Bool, true, false, cond}
-use mathlib.Core.List.{List, []}
-use Prim.Native.Nat.{ℕ, suc, ◌*◌, ◌≤◌}
-use native.Mathlib.Omega.{arith}
-use lib.ListN.{length}
-use borrow.Author.Tests.{le-leb}
+use Rattle.std.proofs.Common.{◌≡◌, ℕ, suc, ◌*◌, ◌≤◌, Bool, true, false, cond, List, [], length, refl, ap, inl, inr, arith, le-leb}
 use Rattle.eon_spec.specs.Refused.{Refusal}
 use Rattle.eon_spec.specs.declared.Which.TheVariants.{Quoted, Scratch}
 use Rattle.eon_spec.specs.Utf8.{is_utf8, well_formed_len, well_formed_from, char_len}
@@ -73,7 +66,7 @@ default_settings x = rw (good_defaults, checked_settings)
 
 -- an answer that is what x gives
 pub answers_not_14 : {A B : Type 0} (a : Outcome A) (x : Outcome B) (f : B → A) → a ≡ (then x λ b. done (f b)) → Enough x → a ≡ refused_with (nowhere 14) → ⊥
-answers_not_14 a (done b) f e h k = let z : ◌≡◌ {A = ℕ} 0 1 = cc in omega arith
+answers_not_14 a (done b) f e h k = cc
 answers_not_14 a (refused_with r) f e h k = h (let z : r ≡ nowhere 14 = cc in ap (λ q. q.number) z)
 
 text_enough : (s : List ℕ) → Enough (read_text s)

@@ -1,14 +1,5 @@
 -- Showing what unquoting answered gives the value, wherever it is held; and what is shown stands where it was said to stand.
-use mathlib.Core.Path.{◌≡◌, refl, sym, ◌∙◌, ap}
-use mathlib.Core.Logic.{◌⊎◌, inl, inr}
-use mathlib.Core.Bool.{Bool, true, false, ◌&&◌, ◌||◌, not, cond}
-use mathlib.Core.List.{List, [], ◌∷◌, ◌++◌}
-use Prim.Native.Nat.{ℕ, suc, ◌+◌, ◌-◌, ◌≤◌, ◌<◌}
-use native.Mathlib.Omega.{arith}
-use lib.ListN.{length, take, drop, length-append, length-drop, take-append-drop}
-use lib.Seq.{take-append_seam, drop-append_seam, drop-drop, length-take-le}
-use lib.Dec.{leb, ltb, eqb}
-use borrow.Author.Tests.{le-leb, lt-ltb, le-ltb, ne_eqb}
+use Rattle.std.proofs.Common.{◌≡◌, ℕ, suc, ◌+◌, ◌-◌, ◌<◌, ◌≤◌, Bool, true, false, cond, not, ◌&&◌, ◌||◌, eqb, ltb, leb, ◌⊎◌, List, [], ◌∷◌, ◌++◌, length, take, drop, sym, refl, ap, ◌∙◌, inl, inr, arith, length-append, length-drop, take-append-drop, length-take-le, drop-drop, le-ltb, ne_eqb, le-leb, take_at, drop_at}
 use Rattle.eon_spec.specs.Base.{elem, eq_list}
 use Rattle.eon_spec.specs.Utf8.{encode_char, encode, decode, is_utf8}
 use Rattle.eon_spec.specs.Unquote.{Unescaped, value, fault, push, unescape, plain, without, starts_with, ends_with, in_marks, one_line_only, drop_line_feed, unquote_chars, value_bytes, unquote}
@@ -16,19 +7,13 @@ use Rattle.eon_spec.specs.Refused.{Refusal}
 use Rattle.eon_spec.specs.declared.Which.TheVariants.{Quoted, Scratch}
 use Rattle.eon_spec.specs.declared.Part.{Part}
 use Rattle.eon_spec.specs.Calls.{done, refused_with, After, after, nowhere, checked, written, fill, part_of, opening, is_part, handed_back, unescaped_outcome, unquote_call, pick, show_call}
-use Rattle.eon_laws.proofs.Facts.{clash, and_left, and_right, nor_left, nor_right, eq_of, eqb_same, le_of, list_eq, le_of_not, eqb_sym, elem_append}
-use Rattle.eon_laws.proofs.Encode.{encode_append, encode_decode}
-
-no_value_lem : {A : Type 0} (n : ℕ) (v : List ℕ) → fault n ≡ value v → A
-no_value_lem n v e = absurd (let z : ◌≡◌ {A = ℕ} 0 1 = cc in omega arith)
+use Rattle.std.proofs.lemmas.Bool.{not-true}
+use Rattle.eon_laws.proofs.Facts.{clash, lt_of, and_left, and_right, nor_left, nor_right, eq_of, eqb_same, le_of, list_eq, le_of_not, eqb_sym, elem_append}
+use Rattle.eon_laws.proofs.Encode.{encode_one, encode_append, encode_decode}
 
 -- ---- ASCII in a text and in its code points
 
--- the first byte of a code point: itself below 128, and 192 or more otherwise
-ascii : (c : ℕ) → c < 128 → encode_char c ≡ c ∷ []
-unfolding encode_char
-ascii c h = rw (lt-ltb c 0x80 h, encode_char)
-
+-- the first byte of a code point that is not ASCII
 abbrev StartsHigh : List ℕ → Type 0
 StartsHigh [] = ⊥
 StartsHigh (b ∷ s) = 192 ≤ b
@@ -49,14 +34,7 @@ AllAscii (c ∷ s) = (c < 128) × AllAscii s
 encode_ascii : (m : List ℕ) → AllAscii m → encode m ≡ m
 unfolding encode
 encode_ascii [] h = refl
-encode_ascii (c ∷ m) h = rw (ascii c h.0, encode_ascii m h.1)
-
-small_or_not : (c : ℕ) → (leb (suc c) 128 ≡ true → c < 128) × (leb (suc c) 128 ≡ false → 128 ≤ c)
-small_or_not c = (λ e. omega (arith, le_of (suc c) 128 e), λ e. not_small c (leb (suc c) 128) refl e)
-  where
-    not_small : (c : ℕ) (b : Bool) → leb (suc c) 128 ≡ b → leb (suc c) 128 ≡ false → 128 ≤ c
-    not_small c true e f = clash e f
-    not_small c false e f = omega (arith, le_of_not c 128 f)
+encode_ascii (c ∷ m) h = rw (encode_one c h.0, encode_ascii m h.1)
 
 -- a text begins with ASCII bytes exactly if its code points begin with them
 starts_encoded : (m d : List ℕ) → AllAscii m → starts_with m (encode d) ≡ starts_with m d
@@ -70,9 +48,9 @@ starts_encoded (x ∷ m) (c ∷ d) h = go (leb (suc c) 128) refl (starts_encoded
     wide (b ∷ s) k = rw (ne_eqb b x (λ e. omega (arith, h.0)))
 
     go : (b : Bool) → leb (suc c) 128 ≡ b → starts_with m (encode d) ≡ starts_with m d → starts_with (x ∷ m) (encode (c ∷ d)) ≡ starts_with (x ∷ m) (c ∷ d)
-    go true e rec = rw (ascii c ((small_or_not c).0 e)) (ap (λ (y : Bool). eqb c x && y) rec)
+    go true e rec = rw (encode_one c (lt_of c 128 e)) (ap (λ (y : Bool). eqb c x && y) rec)
     go false e rec =
-        let k = (small_or_not c).1 e in
+        let k = le_of_not c 128 e in
         wide (encode_char c) (high c k) ∙ sym (ap (λ (y : Bool). y && eq_list (take (length m) d) m) (ne_eqb c x (λ f. omega (arith, h.0))))
 
 -- an ASCII byte that the text lacks is no code point of it
@@ -85,7 +63,7 @@ elem_encoded x (c ∷ d) h e = go (eqb x c) refl (elem_encoded x d h)
     split = sym (elem_append x (encode_char c) (encode d)) ∙ e
 
     there : eqb x c ≡ true → elem x (encode_char c) ≡ true
-    there f = rw (← eq_of x c f, ascii x h, eqb_same x)
+    there f = rw (← eq_of x c f, encode_one x h, eqb_same x)
 
     go : (p : Bool) → eqb x c ≡ p → (elem x (encode d) ≡ false → elem x d ≡ false) → eqb x c || elem x d ≡ false
     go true f rec = clash (there f) (nor_left (elem x (encode_char c)) (elem x (encode d)) split)
@@ -97,7 +75,7 @@ without_none x (c ∷ s) e =
     let n = nor_left (eqb x c) (elem x s) e in
     rw (eqb_sym c x ∙ n, without) (ap (λ (r : List ℕ). c ∷ r) (without_none x s (nor_right (eqb x c) (elem x s) e)))
 
-plain_text : (s : List ℕ) → elem 92 s ≡ false → unescape plain s ≡ value s
+pub plain_text : (s : List ℕ) → elem 92 s ≡ false → unescape plain s ≡ value s
 unfolding unescape
 plain_text [] e = refl
 plain_text (c ∷ s) e =
@@ -123,13 +101,13 @@ framed m d f v e i = go (ends_with m rest) refl i
         let close = list_eq (drop inner rest) m (and_right (leb (length m) (length rest)) (eq_list (drop inner rest) m) p) in
         let whole : rest ≡ take inner rest ++ m = sym (take-append-drop inner rest) ∙ rw close in
         (take inner rest, opened ∙ ap (λ (x : List ℕ). m ++ x) whole, rw (p, in_marks) at i)
-    go false p i = no_value_lem 18 v (rw (p, in_marks) at i)
+    go false p i = cc (rw (p, in_marks) at i)
 
 one_line_lem : (f : List ℕ → Unescaped) (t v : List ℕ) → one_line_only f t ≡ value v → f t ≡ value v
 one_line_lem f t v i = go (elem 10 t) refl i
   where
     go : (b : Bool) → elem 10 t ≡ b → one_line_only f t ≡ value v → f t ≡ value v
-    go true p i = no_value_lem 19 v (rw (p, one_line_only) at i)
+    go true p i = cc (rw (p, one_line_only) at i)
     go false p i = rw (p, one_line_only) at i
 
 -- the code points d are a mark, skipped code points, the value and the mark again
@@ -213,10 +191,6 @@ elem_middle x d a t b w e =
     let f = nor_right (elem x a) (elem x (t ++ b)) (sym (elem_append x a (t ++ b)) ∙ ap (elem x) (sym w) ∙ e) in
     nor_left (elem x t) (elem x b) (sym (elem_append x t b) ∙ f)
 
-not-true : (b : Bool) → not b ≡ true → b ≡ false
-not-true true e = sym e
-not-true false e = refl
-
 -- a value that is a part: literal, or without a backslash
 held : (d v : List ℕ) → starts_with (39 ∷ []) d || not (elem 92 d) ≡ true → unquote_chars d ≡ value v → Held d v
 unfolding unquote_chars
@@ -243,7 +217,7 @@ held d v part u = go (starts_with (39 ∷ 39 ∷ 39 ∷ []) d) (starts_with (39 
         let n = elem_middle 92 d (34 ∷ []) x.0 (34 ∷ []) x.1 (bare q) in
         let z = value_is x.0 v (sym (plain_text x.0 n) ∙ one_line_lem (unescape plain) x.0 v x.2) in
         one_held 34 d v (inr refl) (omega arith) r (x.1 ∙ rw z refl)
-    go false false false false p q r s u = no_value_lem 17 v (rw (p, unquote_chars, q, r, s) at u)
+    go false false false false p q r s u = cc (rw (p, unquote_chars, q, r, s) at u)
 
 -- ---- the law
 
@@ -293,9 +267,9 @@ module _ (s : List ℕ) (formed : is_utf8 s ≡ true) (v : List ℕ) where
           in
           let size : length s ≡ length m + (length k + (length (encode v) + length m)) = ap length b ∙ rw (length-append m (k ++ (encode v ++ m)), length-append k (encode v ++ m), length-append (encode v) m) refl in
           let behind : drop (length m + length k) s ≡ encode v ++ m =
-          rw b (sym (drop-drop (length k) (length m) (m ++ (k ++ (encode v ++ m)))) ∙ ap (drop (length k)) (drop-append_seam m (k ++ (encode v ++ m))) ∙ drop-append_seam k (encode v ++ m))
+          rw b (sym (drop-drop (length k) (length m) (m ++ (k ++ (encode v ++ m)))) ∙ ap (drop (length k)) (drop_at m (k ++ (encode v ++ m)) _ refl) ∙ drop_at k (encode v ++ m) _ refl)
           in
-          (omega arith, rw (o, behind) (take-append_seam (encode v) m))
+          (omega arith, rw (o, behind) (take_at (encode v) m _ refl))
 
 module _ (s scratch : List ℕ) where
   -- what a call that answers gave: a well-formed text, its value v, and where it is handed back
@@ -310,7 +284,7 @@ module _ (s scratch : List ℕ) where
   answered p m e = go (ltb 65535 (length s)) (is_utf8 s) (unquote_chars (without 13 (decode s))) refl refl refl e
     where
       refused_not : {A : Type 0} (r : Refusal) (l : List ℕ) → after {A = Part} (refused_with r) l ≡ after (done p) m → A
-      refused_not r l f = absurd (let k = ap (λ (x : After Part). x.answer) f in let z : ◌≡◌ {A = ℕ} 0 1 = cc in omega arith)
+      refused_not r l f = let k = ap (λ (x : After Part). x.answer) f in cc
 
       go : (x y : Bool) (u : Unescaped) → ltb 65535 (length s) ≡ x → is_utf8 s ≡ y → unquote_chars (without 13 (decode s)) ≡ u → unquote_call s scratch ≡ after (done p) m → Answered p m
       go true y u f g h e = refused_not _ scratch (rw (f, checked) at e)
@@ -337,11 +311,11 @@ module _ (s scratch : List ℕ) where
       go false i v f c g = in_scratch (leb (length (encode v)) (length scratch)) refl
         where
           in_scratch : (b : Bool) → leb (length (encode v)) (length scratch) ≡ b → encode v ≡ show_call p s m
-          in_scratch false l = absurd (let k = ap (λ (x : After Part). x.answer) (rw (l, fill) at (rw i at g)) in let z : ◌≡◌ {A = ℕ} 0 1 = cc in omega arith)
+          in_scratch false l = let k = ap (λ (x : After Part). x.answer) (rw (l, fill) at (rw i at g)) in cc
           in_scratch true l =
               let x : after (done (part_of Scratch 0 (length (encode v)))) (written (encode v) scratch) ≡ after (done p) m = rw (l, fill) at (rw i at g) in
               let n : 0 + length (encode v) ≤ length (written (encode v) scratch) = rw (length-append (encode v) (drop (length (encode v)) scratch)) (omega arith) in
-              rw (← (same x).0, ← (same x).1, le-leb (0 + length (encode v)) (length (written (encode v) scratch)) n) (sym (take-append_seam (encode v) (drop (length (encode v)) scratch)))
+              rw (← (same x).0, ← (same x).1, le-leb (0 + length (encode v)) (length (written (encode v) scratch)) n) (sym (take_at (encode v) (drop (length (encode v)) scratch) _ refl))
 
 -- bytes that are shown stand within the slice named, from the place named on
 pub shown_stands : (p : Part) (q s : List ℕ) → 0 < length (show_call p q s)

@@ -1,14 +1,6 @@
-use Rattle.std.specs.Prelude.{Option, None, Some}
 -- White space is one byte: the code point of a character of more bytes is 128 or more.
-use mathlib.Core.Path.{◌≡◌, refl, ◌∙◌, ap}
-use mathlib.Core.Logic.{◌⊎◌, inl, inr}
-use mathlib.Core.Bool.{Bool, true, false}
-use mathlib.Core.List.{List, [], ◌∷◌}
-use Prim.Native.Nat.{ℕ, suc, ◌≤◌, ◌<◌}
-use native.Mathlib.Omega.{arith}
-use lib.ListN.{length}
-use lib.Dec.{leb, eqb}
-use Rattle.eon_laws.proofs.Facts.{clash, and_left, le_of, eq_of}
+use Rattle.std.proofs.Common.{◌≡◌, ℕ, suc, ◌<◌, ◌≤◌, Bool, true, false, eqb, ◌⊎◌, List, [], ◌∷◌, length, Some, None, Option, refl, ap, ◌∙◌, inl, inr, arith}
+use Rattle.eon_laws.proofs.Facts.{within_bounds, clash, and_left, eq_of}
 use Rattle.eon_spec.specs.Base.{elem}
 use Rattle.eon_spec.specs.Utf8.{Range, ◌to◌, Row, ◌then◌, in_range, trailing, row_of, table37, fits, len_if, char_len, Character, code_point}
 use Rattle.eon_spec.specs.Token.{is_space}
@@ -20,7 +12,7 @@ InRows [] b m = ⊥
 InRows ((f then g) ∷ rows) b m = ((in_range f b ≡ true) × (length g ≡ length m) × ((s : List ℕ) → fits m s ≡ true → fits g s ≡ true)) ⊎ InRows rows b m
 
 pub row_in : (rows : List Row) (b : ℕ) (m : List Range) → row_of rows b ≡ Some m → InRows rows b m
-row_in [] b m e = absurd (let y : ◌≡◌ {A = ℕ} 0 1 = cc in omega arith)
+row_in [] b m e = cc
 row_in ((f then g) ∷ rows) b m e = go (in_range f b) refl e (row_in rows b m)
   where
     go : (x : Bool) → in_range f b ≡ x → row_of ((f then g) ∷ rows) b ≡ Some m → (row_of rows b ≡ Some m → InRows rows b m) → InRows ((f then g) ∷ rows) b m
@@ -30,16 +22,13 @@ row_in ((f then g) ∷ rows) b m e = go (in_range f b) refl e (row_in rows b m)
         inl (p, ap length y, λ s q. rw y q)
     go false p e h = inr (h (rw (p, row_of) at e))
 
-low : (lo hi b : ℕ) → in_range (lo to hi) b ≡ true → lo ≤ b
-low lo hi b e = le_of lo b (and_left (leb lo b) (leb b hi) e)
-
 abbrev first : List ℕ → ℕ
 first [] = 0
 first (x ∷ s) = x
 
 first_low : (lo hi : ℕ) (rs : List Range) (s : List ℕ) → fits (lo to hi ∷ rs) s ≡ true → lo ≤ first s
-first_low lo hi rs [] e = clash e refl
-first_low lo hi rs (x ∷ s) e = low lo hi x (and_left (in_range (lo to hi) x) (fits rs s) e)
+first_low lo hi rs [] e = cc
+first_low lo hi rs (x ∷ s) e = (within_bounds lo hi x (and_left (in_range (lo to hi) x) (fits rs s) e)).0
 
 two : (b : ℕ) (s : List ℕ) → 1 ≡ length s → 194 ≤ b → 128 ≤ code_point (b ∷ s)
 two b [] l h = absurd (omega arith)
@@ -62,14 +51,14 @@ four b (x ∷ y ∷ z ∷ s) l (inr h) = omega arith
 
 wide : (b : ℕ) (s : List ℕ) (m : List Range) → InRows table37 b m → fits m s ≡ true → length m ≡ length s → 0 < length s → 128 ≤ code_point (b ∷ s)
 wide b s m (inl p) f l z = absurd (omega (arith, p.1))
-wide b s m (inr (inl p)) f l z = two b s (p.1 ∙ l) (low 0xC2 0xDF b p.0)
+wide b s m (inr (inl p)) f l z = two b s (p.1 ∙ l) (within_bounds 0xC2 0xDF b p.0).0
 wide b s m (inr (inr (inl p))) f l z = three b s (p.1 ∙ l) (inr (first_low 0xA0 0xBF (trailing ∷ []) s (p.2 s f)))
-wide b s m (inr (inr (inr (inl p)))) f l z = three b s (p.1 ∙ l) (inl (low 0xE1 0xEC b p.0))
-wide b s m (inr (inr (inr (inr (inl p))))) f l z = three b s (p.1 ∙ l) (inl (omega (arith, low 0xED 0xED b p.0)))
-wide b s m (inr (inr (inr (inr (inr (inl p)))))) f l z = three b s (p.1 ∙ l) (inl (omega (arith, low 0xEE 0xEF b p.0)))
+wide b s m (inr (inr (inr (inl p)))) f l z = three b s (p.1 ∙ l) (inl (within_bounds 0xE1 0xEC b p.0).0)
+wide b s m (inr (inr (inr (inr (inl p))))) f l z = three b s (p.1 ∙ l) (inl (omega (arith, (within_bounds 0xED 0xED b p.0).0)))
+wide b s m (inr (inr (inr (inr (inr (inl p)))))) f l z = three b s (p.1 ∙ l) (inl (omega (arith, (within_bounds 0xEE 0xEF b p.0).0)))
 wide b s m (inr (inr (inr (inr (inr (inr (inl p))))))) f l z = four b s (p.1 ∙ l) (inr (first_low 0x90 0xBF (trailing ∷ trailing ∷ []) s (p.2 s f)))
-wide b s m (inr (inr (inr (inr (inr (inr (inr (inl p)))))))) f l z = four b s (p.1 ∙ l) (inl (low 0xF1 0xF3 b p.0))
-wide b s m (inr (inr (inr (inr (inr (inr (inr (inr (inl p))))))))) f l z = four b s (p.1 ∙ l) (inl (omega (arith, low 0xF4 0xF4 b p.0)))
+wide b s m (inr (inr (inr (inr (inr (inr (inr (inl p)))))))) f l z = four b s (p.1 ∙ l) (inl (within_bounds 0xF1 0xF3 b p.0).0)
+wide b s m (inr (inr (inr (inr (inr (inr (inr (inr (inl p))))))))) f l z = four b s (p.1 ∙ l) (inl (omega (arith, (within_bounds 0xF4 0xF4 b p.0).0)))
 wide b s m (inr (inr (inr (inr (inr (inr (inr (inr (inr p))))))))) f l z = absurd p
 
 pub char_wide : (b : ℕ) (s : List ℕ) → char_len (b ∷ s) ≡ suc (length s) → 0 < length s → 128 ≤ code_point (b ∷ s)

@@ -10,7 +10,7 @@ use Rattle.eon_laws.proofs.Chars.{IsChar, AllChars, chars_are, all_formed}
 use Rattle.eon_laws.proofs.Utf8.{chars_concat, chars_front, well_formed_behind}
 use Rattle.eon_laws.proofs.Facts.{and_left, and_right, eq_of}
 use lib.Seq.{length-take-le}
-use Rattle.eon_laws.proofs.Encode.{sized_1, sized_2, sized_3, sized_4, chars_encoded}
+use Rattle.eon_laws.proofs.Encode.{encode_one, encode_two, encode_three, encode_four, chars_encoded}
 
 module _ (c : ℕ) where
   encoded_1 : c < 0x80 → char_len (c ∷ []) ≡ 1
@@ -105,12 +105,12 @@ encoded_char : (c : ℕ) → scalar c ≡ true → IsChar (encode_char c)
 encoded_char c s = go (scalar_cases c s) (dec_le 0x80 c) (dec_le 0x800 c) (dec_le 0x10000 c)
   where
     go : (c < 0xD800) ⊎ ((0xE000 ≤ c) × (c < 0x110000)) → Dec (0x80 ≤ c) → Dec (0x800 ≤ c) → Dec (0x10000 ≤ c) → IsChar (encode_char c)
-    go s (no h) _ _ = rw (sized_1 c (omega arith)) (encoded_1 c (omega arith))
-    go s (yes h) (no k) _ = rw (sized_2 c h (omega arith)) (encoded_2 c h (omega arith))
-    go (inl s) (yes h) (yes k) (no l) = rw (sized_3 c k (omega arith)) (encoded_3 c k (omega arith) (inl s))
-    go (inr s) (yes h) (yes k) (no l) = rw (sized_3 c k (omega arith)) (encoded_3 c k (omega arith) (inr s.0))
+    go s (no h) _ _ = rw (encode_one c (omega arith)) (encoded_1 c (omega arith))
+    go s (yes h) (no k) _ = rw (encode_two c h (omega arith)) (encoded_2 c h (omega arith))
+    go (inl s) (yes h) (yes k) (no l) = rw (encode_three c k (omega arith)) (encoded_3 c k (omega arith) (inl s))
+    go (inr s) (yes h) (yes k) (no l) = rw (encode_three c k (omega arith)) (encoded_3 c k (omega arith) (inr s.0))
     go (inl s) (yes h) (yes k) (yes l) = absurd (omega arith)
-    go (inr s) (yes h) (yes k) (yes l) = rw (sized_4 c l) (encoded_4 c l s.1)
+    go (inr s) (yes h) (yes k) (yes l) = rw (encode_four c l) (encoded_4 c l s.1)
 
 encoded_chars : (cs : List ℕ) → scalars cs ≡ true → AllChars (map encode_char cs)
 encoded_chars [] h = tt

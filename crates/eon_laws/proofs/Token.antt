@@ -1,10 +1,5 @@
 -- Laws of the token list: behind a token, the tokens are those of what is left of the text.
-use mathlib.Core.Path.{◌≡◌, refl, sym, ◌∙◌, ap}
-use mathlib.Core.Bool.{Bool, false}
-use mathlib.Core.List.{List, [], ◌∷◌}
-use Prim.Native.Nat.{ℕ, zero, suc, ◌+◌, pred}
-use native.Mathlib.Nat.{add-zero, add_assoc}
-use lib.ListN.{length, take, drop, length-append}
+use Rattle.std.proofs.Common.{◌≡◌, ℕ, zero, suc, pred, ◌+◌, Bool, false, List, [], ◌∷◌, length, take, drop, sym, refl, ap, ◌∙◌, add-zero, add_assoc, length-append}
 use Rattle.eon_spec.specs.Utf8.{Character, joined}
 use Rattle.eon_spec.specs.Token.{tokens_from, placed, longest_rule, rules, is_space}
 

@@ -1,12 +1,5 @@
-use Rattle.std.specs.Prelude.{Option, None, Some}
 -- The value of a quoted string takes no more bytes than the string; and unquoting refuses by 17 to 26.
-use mathlib.Core.Path.{◌≡◌, refl, ap}
-use mathlib.Core.Bool.{Bool, true, false, ◌&&◌, cond}
-use mathlib.Core.List.{List, [], ◌∷◌, ◌++◌}
-use Prim.Native.Nat.{ℕ, suc, ◌+◌, ◌-◌, ◌*◌, ◌≤◌}
-use native.Mathlib.Omega.{arith}
-use lib.ListN.{length, take, drop, length-append, take-append-drop}
-use lib.Dec.{ltb, eqb}
+use Rattle.std.proofs.Common.{◌≡◌, ℕ, suc, ◌+◌, ◌-◌, ◌*◌, ◌≤◌, Bool, true, false, cond, ◌&&◌, eqb, ltb, List, [], ◌∷◌, ◌++◌, length, take, drop, Some, None, Option, refl, ap, arith, length-append, take-append-drop}
 use Rattle.eon_spec.specs.Base.{elem, codes}
 use Rattle.eon_spec.specs.Utf8.{encode_char, encode, decode, is_scalar, is_utf8}
 use Rattle.eon_spec.specs.Unquote.{Unescaped, value, fault, push, lookup, escapes, hex_digit, white_space, Mode, plain, backslash, blanks, unicode, digits, unescape, without, starts_with, ends_with, in_marks, one_line_only, drop_line_feed, unquote_chars, value_bytes, unquote}

@@ -1,37 +1,28 @@
-use Rattle.std.specs.Prelude.{Option, None, Some, nat_lt}
-use Rattle.std.proofs.lemmas.Bool.Decides.{nat_tests}
 -- Laws of UTF-8 that the definitions give.
-use mathlib.Core.Path.{◌≡◌, refl, ap, sym}
-use mathlib.Core.Bool.{Bool, true, false}
-use mathlib.Core.List.{List, [], ◌∷◌, ◌++◌}
-use Prim.Native.Nat.{ℕ, zero, suc, ◌+◌, ◌≤◌, ◌<◌}
-use native.Mathlib.Omega.{arith}
-use lib.ListN.{length, take, drop, take-append-drop}
-use lib.Seq.{take-append-le}
-use Rattle.eon_laws.proofs.Facts.{clash}
-use Rattle.eon_spec.specs.Utf8.{Range, in_range, row_of, table37, fits, len_if, char_len, well_formed_from, chars_from, joined}
-
-false_true : {A : Type 0} → false ≡ true → A
-false_true e = clash e refl
+use Rattle.std.proofs.Common.{◌≡◌, ℕ, zero, suc, ◌+◌, ◌≤◌, ◌<◌, nat_lt, Bool, true, false, List, [], ◌∷◌, ◌++◌, length, take, drop, Some, None, Option, refl, ap, sym, arith, take-append-drop}
+use Rattle.std.proofs.lemmas.List.{take-append-le}
+use Rattle.std.proofs.lemmas.Bool.Decides.{nat_tests}
+use Rattle.eon_laws.proofs.Facts.{eq_of}
+use Rattle.eon_spec.specs.Utf8.{Range, in_range, row_of, table37, fits, len_if, char_len, well_formed_len, well_formed_from, chars_from, chars, is_utf8, joined}
 
 -- bytes that fit still fit with more behind them, and there are enough of them
 fits_append : (rs : List Range) (s t : List ℕ) → fits rs s ≡ true → fits rs (s ++ t) ≡ true
 fits_append [] s t e = refl
-fits_append (r ∷ rs) [] t e = false_true e
+fits_append (r ∷ rs) [] t e = cc
 fits_append (r ∷ rs) (b ∷ s) t e = go (in_range r b) refl e (fits_append rs s t)
   where
     go : (x : Bool) → in_range r b ≡ x → fits (r ∷ rs) (b ∷ s) ≡ true → (fits rs s ≡ true → fits rs (s ++ t) ≡ true) → fits (r ∷ rs) (b ∷ (s ++ t)) ≡ true
     go true p e f = rw (p, fits) (f (rw (p, fits) at e))
-    go false p e f = false_true (rw (p, fits) at e)
+    go false p e f = cc (rw (p, fits) at e)
 
 pub fits_length : (rs : List Range) (s : List ℕ) → fits rs s ≡ true → length rs ≤ length s
 fits_length [] s e = omega arith
-fits_length (r ∷ rs) [] e = false_true e
+fits_length (r ∷ rs) [] e = cc
 fits_length (r ∷ rs) (b ∷ s) e = go (in_range r b) refl e (fits_length rs s)
   where
     go : (x : Bool) → in_range r b ≡ x → fits (r ∷ rs) (b ∷ s) ≡ true → (fits rs s ≡ true → length rs ≤ length s) → suc (length rs) ≤ suc (length s)
     go true p e f = let h = f (rw (p, fits) at e) in omega arith
-    go false p e f = false_true (rw (p, fits) at e)
+    go false p e f = cc (rw (p, fits) at e)
 
 len_if_append : (o : Option (List Range)) (s t : List ℕ) (k : ℕ) → len_if o s ≡ suc k → len_if o (s ++ t) ≡ suc k
 len_if_append None s t k e = e
@@ -97,6 +88,10 @@ chars_concat zero (x ∷ a) h e = go (char_len (x ∷ a)) refl e (λ k. chars_co
     go (suc k) p e f =
         let z = rw (p, well_formed_from) at e in
         rw (p, chars_from) (rw (f k (char_length x a k p) (omega arith), take-append-drop k a))
+
+pub joined_is : (s : List ℕ) → is_utf8 s ≡ true → joined (chars s) ≡ s
+unfolding is_utf8 well_formed_len chars
+joined_is s formed = chars_concat 0 s (omega arith) (eq_of (well_formed_len s) (length s) formed)
 
 -- what stands behind a well-formed text is read anew
 pub well_formed_behind : (k : ℕ) (a b : List ℕ) → k ≤ length a → well_formed_from k a ≡ length a → well_formed_from k (a ++ b) ≡ length a + well_formed_from 0 b

@@ -1,9 +1,5 @@
 -- Bytes that are one whole token.
-use mathlib.Core.Path.{◌≡◌}
-use mathlib.Core.Bool.{false}
-use mathlib.Core.List.{List, [], ◌∷◌}
-use Prim.Native.Nat.{ℕ}
-use lib.ListN.{length}
+use Rattle.std.proofs.Common.{◌≡◌, ℕ, false, List, [], ◌∷◌, length}
 use Rattle.eon_spec.specs.Utf8.{Character, chars, well_formed_len}
 use Rattle.eon_spec.specs.declared.token_kind.TokenKind.{TokenKind}
 use Rattle.eon_spec.specs.declared.token_kind.TokenKind.TheVariants.{DoubleQuotedString, SingleQuotedString, MultilineBasicString, MultilineLiteralString}

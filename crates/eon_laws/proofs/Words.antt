@@ -1,12 +1,5 @@
 -- Each token of a text is a whole token of its own bytes, which stand at its place.
-use mathlib.Core.Path.{◌≡◌, refl, sym, ◌∙◌, ap}
-use mathlib.Core.Bool.{Bool, true, false, ◌||◌}
-use mathlib.Core.List.{List, [], ◌∷◌, ◌++◌, append_assoc}
-use Prim.Native.Nat.{ℕ, zero, suc, ◌+◌, ◌-◌, pred}
-use native.Mathlib.Omega.{arith}
-use lib.ListN.{length, take, drop, length-append}
-use lib.Seq.{length-take-le, take-append_seam, drop-append_seam}
-use lib.Dec.{eqb}
+use Rattle.std.proofs.Common.{◌≡◌, ℕ, zero, suc, pred, ◌+◌, ◌-◌, Bool, true, false, ◌||◌, eqb, List, [], ◌∷◌, ◌++◌, length, take, drop, sym, refl, ap, ◌∙◌, append_assoc, arith, length-append, length-take-le, take_at, drop_at}
 use Rattle.eon_spec.specs.Utf8.{Character, joined, code_point}
 use Rattle.eon_spec.specs.declared.token_kind.TokenKind.{TokenKind}
 use Rattle.eon_spec.specs.declared.token_kind.TokenKind.TheVariants.{Invalid}
@@ -48,7 +41,7 @@ joined_split (suc n) [] = refl
 joined_split (suc n) (c ∷ cs) = rw (append_assoc c (joined (take n cs)) (joined (drop n cs))) (ap (λ (x : List ℕ). c ++ x) (joined_split n cs))
 
 pub slice_at : (done a b : List ℕ) → take ((length done + length a) - length done) (drop (length done) (done ++ (a ++ b))) ≡ a
-slice_at done a b = let e : (length done + length a) - length done ≡ length a = omega arith in rw (e, drop-append_seam done (a ++ b), take-append_seam a b)
+slice_at done a b = let e : (length done + length a) - length done ≡ length a = omega arith in rw (e, drop_at done (a ++ b) _ refl, take_at a b _ refl)
 
 module _ (s : List ℕ) where
   pub leaves_from : (skip at : ℕ) (nl : Bool) (cs : List Character) (done : List ℕ) → AllChars cs → s ≡ done ++ joined cs → at ≡ length done → AllTokens (TextLeaf s) (tokens_from skip at nl cs)

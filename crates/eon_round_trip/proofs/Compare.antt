@@ -1,13 +1,7 @@
-use Rattle.std.specs.Prelude.{Option, None, Some}
 -- The comparison of record tables says whether two trees without comments are equal, spans aside.
-use mathlib.Core.Path.{◌≡◌, refl, sym, ◌∙◌, ap}
-use mathlib.Core.Bool.{true, false}
-use mathlib.Core.List.{List, [], ◌∷◌, ◌++◌, append-nil, append_assoc}
-use Prim.Native.Nat.{ℕ, suc}
-use native.Mathlib.Omega.{arith}
-use lib.ListN.{length}
-use lib.Dec.{eqb}
-use Rattle.eon_laws.proofs.Compare.{Key, keys_of, same_keys, keys_same, cons_head, cons_tail, no_cons, append_same, keys_of_append, keys_of_length}
+use Rattle.std.proofs.Common.{◌≡◌, ℕ, suc, true, false, eqb, List, [], ◌∷◌, ◌++◌, length, Some, None, Option, sym, refl, ap, ◌∙◌, append_assoc, append-nil, arith}
+use Rattle.eon_laws.proofs.Facts.{cons_head, cons_tail}
+use Rattle.eon_laws.proofs.Compare.{Key, keys_of, same_keys, keys_same, around_keys, around_keys_lem, append_same, keys_of_append}
 use Rattle.eon_spec.specs.Tree.{Span, TokenTree, TokenValue, TokenTrees, KeyValues, tree}
 use Rattle.eon_spec.specs.Records.{Record, record_at, around, tree_records, value_records, trees_records, pairs_records}
 use Rattle.eon_spec.specs.Calls.{record_text, same_records}
@@ -42,7 +36,7 @@ nodes_eq n m ns ms p q = λ i. p i ∷ⁿ q i
 -- a node has a key
 some_keys : {A : Type 0} (n : Node) (ks : List Key) → [] ≡ keys n ++ ks → A
 unfolding keys
-some_keys (node k b ns) ks e = no_cons e
+some_keys (node k b ns) ks e = cc
 
 mutual
   unfolding keys
@@ -122,11 +116,9 @@ mutual
       ap (λ (z : Value). pairᵖ z (un_node (node_of y)) (un_pairs (pair_nodes ps) None)) (node_back x) ∙ ap (λ (z : Value). pairᵖ x z (un_pairs (pair_nodes ps) None)) (node_back y) ∙ ap (λ (z : Pairs). pairᵖ x y z) (pair_nodes_back ps)
 
 module _ (s : List ℕ) where
-  around_keys_lem : (k : ℕ) (sp : Span) (e : ℕ) (inside : List Record) (ks : List Key) → keys_of s inside ≡ ks
-      → keys_of s (around k sp e (inside ++ [])) ≡ record { kind = k; size = suc (length ks); text = record_text s (record_at k sp e 0) } ∷ ks
-  around_keys_lem k sp e inside ks h =
-      let l : length inside ≡ length ks = sym (keys_of_length s inside) ∙ ap length h in
-      rw (append-nil inside, l, h)
+  bare_around : (k : ℕ) (sp : Span) (e : ℕ) (inside : List Record) (ks : List Key) → keys_of s inside ≡ ks
+      → keys_of s (around k sp e (inside ++ [])) ≡ around_keys k (record_text s (record_at k sp e 0)) ks
+  bare_around k sp e inside ks h = around_keys_lem s k sp e (inside ++ []) ks (ap (keys_of s) (append-nil inside) ∙ h)
 
   three_keys : (a b c : List Record) (x y z : List Key) → keys_of s a ≡ x → keys_of s b ≡ y → keys_of s c ≡ z → keys_of s (a ++ b ++ c) ≡ x ++ (y ++ z)
   three_keys a b c x y z p q r = keys_of_append s (a ++ b) c ∙ rw (keys_of_append s a b, p, q, r) (append_assoc x y z)
@@ -142,10 +134,10 @@ module _ (s : List ℕ) where
     value_keys is_identifier sp l = rw l.1
     value_keys is_number_lem sp l = rw l.1
     value_keys is_string sp l = rw l.2.1
-    value_keys (is_list {ts = ts} {vs = vs} a) sp l = around_keys_lem 4 sp sp.end (trees_records ts) (all_keys (nodes_of vs)) (trees_keys a l)
-    value_keys (is_map {kvs = kvs} {ps = ps} a) sp l = around_keys_lem 5 sp sp.end (pairs_records kvs) (all_keys (pair_nodes ps)) (pairs_keys_lem a l)
+    value_keys (is_list {ts = ts} {vs = vs} a) sp l = bare_around 4 sp sp.end (trees_records ts) (all_keys (nodes_of vs)) (trees_keys a l)
+    value_keys (is_map {kvs = kvs} {ps = ps} a) sp l = bare_around 5 sp sp.end (pairs_records kvs) (all_keys (pair_nodes ps)) (pairs_keys_lem a l)
     value_keys (is_variant {n = n} {b = b} {ts = ts} {vs = vs} p a) sp l =
-        around_keys_lem 6 sp n.span.end (trees_records ts) (all_keys (nodes_of vs)) (trees_keys a l.1)
+        bare_around 6 sp n.span.end (trees_records ts) (all_keys (nodes_of vs)) (trees_keys a l.1)
         ∙ ap (λ (x : List ℕ). record { kind = 6; size = suc (length (all_keys (nodes_of vs))); text = x } ∷ all_keys (nodes_of vs)) (l.0.2.1 ∙ p)
 
     trees_keys : {ts : TokenTrees} {vs : Values} → AreValues ts vs → AllLeaves (TextLeaf s) ts → keys_of s (trees_records ts) ≡ all_keys (nodes_of vs)

@@ -1,16 +1,10 @@
 -- The tokens of pieces in a row are their words.
-use mathlib.Core.Path.{◌≡◌, refl, sym, ◌∙◌, ap}
-use mathlib.Core.Bool.{Bool, false, ◌||◌}
-use mathlib.Core.List.{List, [], ◌∷◌, ◌++◌}
-use Prim.Native.Nat.{ℕ, suc, ◌+◌}
-use native.Mathlib.Omega.{arith}
-use lib.ListN.{length, length-append}
-use lib.Seq.{take-append_seam, drop-append_seam}
-use lib.Dec.{eqb}
+use Rattle.std.proofs.Common.{◌≡◌, ℕ, suc, ◌+◌, Bool, false, ◌||◌, eqb, List, [], ◌∷◌, ◌++◌, length, sym, refl, ap, ◌∙◌, arith, length-append, take_at, drop_at}
 use Rattle.eon_spec.specs.Utf8.{Character, chars, chars_from, char_len, joined, well_formed_len, well_formed_from}
-use Rattle.eon_laws.proofs.Utf8.{chars_append, chars_concat, well_formed_append}
+use Rattle.eon_laws.proofs.Utf8.{chars_append, joined_is, well_formed_append}
 use Rattle.eon_spec.specs.declared.token_kind.TokenKind.{TokenKind}
 use Rattle.eon_spec.specs.Token.{Token, tokens_from, longest_rule, rules}
+use Rattle.eon_laws.proofs.Checked.{good_text}
 use Rattle.eon_laws.proofs.Token.{tokens_step}
 use Rattle.eon_round_trip.proofs.Pieces.{Piece, blank, word, flatten, placed_tokens}
 use Rattle.eon_laws.proofs.Word.{Begins, IsWord}
@@ -32,15 +26,11 @@ word_step : (at : ℕ) (nl : Bool) (q : TokenKind) (cs t : List Character) (b : 
 word_step at nl q [] t b h e f = absurd h
 word_step at nl q (c ∷ cs) t b h e f =
     tokens_step at nl c (cs ++ t) (length cs) h (rw f)
-    ∙ rw (f, take-append_seam cs t, drop-append_seam cs t, e)
+    ∙ rw (f, take_at cs t _ refl, drop_at cs t _ refl, e)
 
 chars_of_append : (b s : List ℕ) → well_formed_len b ≡ length b → chars (b ++ s) ≡ chars b ++ chars s
 unfolding chars well_formed_len
 chars_of_append b s e = chars_append 0 b s (omega arith) e
-
-concat_chars : (b : List ℕ) → well_formed_len b ≡ length b → joined (chars b) ≡ b
-unfolding chars well_formed_len
-concat_chars b e = chars_concat 0 b (omega arith) e
 
 blank_step : {b : ℕ} → IsBlank b → (at : ℕ) (nl : Bool) (s : List ℕ) → tokens_from 0 at nl (chars (b ∷ s)) ≡ tokens_from 0 (at + 1) (nl || eqb b 10) (chars s)
 unfolding tokens_from chars chars_from char_len
@@ -57,7 +47,7 @@ lex [] at nl g = no_tokens at nl
 lex (blank b ∷ ps) at nl g = blank_step g.0 at nl (flatten ps) ∙ lex ps (at + 1) (nl || eqb b 10) g.1
 lex (word k b ∷ ps) at nl g =
     ap (tokens_from 0 at nl) (chars_of_append b (flatten ps) g.0.well_formed)
-    ∙ word_step at nl k (chars b) (chars (flatten ps)) b g.0.begins (concat_chars b g.0.well_formed) g.1
+    ∙ word_step at nl k (chars b) (chars (flatten ps)) b g.0.begins (joined_is b (good_text b _ refl g.0.well_formed)) g.1
     ∙ ap (λ (ts : List Token). record { kind = k; start = at; end = at + length b; slice = b; new_line = nl } ∷ ts) (lex ps (at + length b) false g.2)
 
 -- and they are well-formed

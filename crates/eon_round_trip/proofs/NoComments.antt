@@ -1,8 +1,6 @@
-use Rattle.std.specs.Prelude.{Option, None, Some}
 -- A tree has no comments exactly if its table has no record of kinds 7 to 9.
-use mathlib.Core.Path.{◌≡◌, refl, sym, ◌∙◌, ap}
-use mathlib.Core.Bool.{Bool, true, false, ◌&&◌, not}
-use mathlib.Core.List.{List, [], ◌∷◌, ◌++◌}
+use Rattle.std.proofs.Common.{◌≡◌, Bool, true, not, ◌&&◌, List, [], ◌∷◌, ◌++◌, Some, None, Option, sym, refl, ap, ◌∙◌}
+use mathlib.Core.Bool.{and_assoc, and_comm}
 use Rattle.eon_spec.specs.Base.{within}
 use Rattle.eon_spec.specs.Tree.{Span, Slice, TokenTree, TokenValue, TokenTrees, KeyValues, tree, identifier, number, quoted_string, list_of, map_of, variant_of, no_trees, ◌∷ᵗ◌, no_pairs, pair}
 use Rattle.eon_spec.specs.Records.{Record, comments, suffix, tree_records, value_records, trees_records, pairs_records}
@@ -29,16 +27,6 @@ unfoldable mutual
   pub free_pairs : KeyValues → Bool
   free_pairs no_pairs = true
   free_pairs (pair k v kvs) = free_tree k && (free_tree v && free_pairs kvs)
-
-and_assoc : (a b c : Bool) → a && b && c ≡ a && (b && c)
-and_assoc true b c = refl
-and_assoc false b c = refl
-
-and_comm : (a b : Bool) → a && b ≡ b && a
-and_comm true true = refl
-and_comm true false = refl
-and_comm false true = refl
-and_comm false false = refl
 
 append_free : (a b : List Record) → no_comment_records (a ++ b) ≡ no_comment_records a && no_comment_records b
 append_free [] b = refl

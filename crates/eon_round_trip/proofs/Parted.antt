@@ -1,9 +1,5 @@
 -- In what layout writes, each word is the longest token at its place.
-use mathlib.Core.Path.{◌≡◌, refl}
-use mathlib.Core.Bool.{true, false}
-use mathlib.Core.List.{List, [], ◌∷◌, ◌++◌}
-use Prim.Native.Nat.{ℕ, zero, suc}
-use lib.ListN.{length}
+use Rattle.std.proofs.Common.{◌≡◌, ℕ, zero, suc, true, false, List, [], ◌∷◌, ◌++◌, length, refl}
 use Rattle.eon_laws.proofs.Facts.{either}
 use Rattle.eon_spec.specs.Utf8.{Character, chars, chars_from, char_len, well_formed_len, well_formed_from}
 use Rattle.eon_spec.specs.Regex.{deriv, longest}

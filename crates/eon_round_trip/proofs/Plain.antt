@@ -1,12 +1,5 @@
-use Rattle.std.specs.Prelude.{None}
 -- Trees without comments and spans.
-use mathlib.Core.Path.{◌≡◌, refl, ap}
-use mathlib.Core.Bool.{Bool, true, false, ◌&&◌, ◌||◌, not}
-use mathlib.Core.List.{List, []}
-use Prim.Native.Nat.{ℕ, suc, ◌+◌}
-use lib.ListN.{length}
-use lib.Dec.{ltb, leb}
-use Rattle.eon_laws.proofs.Facts.{clash}
+use Rattle.std.proofs.Common.{◌≡◌, ℕ, suc, ◌+◌, Bool, true, false, not, ◌&&◌, ◌||◌, ltb, leb, List, [], length, None, refl, ap}
 use Rattle.eon_spec.specs.Base.{elem}
 use Rattle.eon_spec.specs.Tree.{Span, Slice, TokenTree, TokenValue, TokenTrees, KeyValues, tree, identifier, number, quoted_string, list_of, map_of, variant_of, no_trees, ◌∷ᵗ◌, no_pairs, pair}
 
@@ -118,7 +111,7 @@ variant_fits vs = not (emptyᵛ vs) && (one_lineᵛ vs || sole_container vs)
 
 -- a variant that fits and is not on one line holds just one list or map
 pub fits_sole : (vs : Values) → variant_fits vs ≡ true → one_lineᵛ vs ≡ false → sole_container vs ≡ true
-fits_sole noneᵛ e f = clash e refl
+fits_sole noneᵛ e f = cc
 fits_sole (v ∷ᵛ vs) e f = rw f at e
 
 -- the value of a tree, its comments and spans left out

@@ -1,17 +1,13 @@
-use Rattle.std.specs.Prelude.{None, Some}
 -- The premises of demand 3 on a tree, and what they make of it: a value without comments that is ready to be written and read back.
-use mathlib.Core.Path.{◌≡◌, refl, subst}
-use mathlib.Core.Bool.{Bool, true, false, ◌&&◌}
-use mathlib.Core.List.{List, [], ◌∷◌}
-use Prim.Native.Nat.{ℕ, zero, suc, pred, ◌≤◌}
-use native.Mathlib.Omega.{arith}
+use Rattle.std.proofs.Common.{◌≡◌, ℕ, zero, suc, pred, ◌≤◌, Bool, true, false, ◌&&◌, List, [], ◌∷◌, Some, None, refl, subst, arith}
 use Rattle.eon_spec.specs.declared.token_kind.TokenKind.{TokenKind}
 use Rattle.eon_spec.specs.declared.token_kind.TokenKind.TheVariants.{Invalid}
 use Rattle.eon_spec.specs.Token.{is_kind}
 use Rattle.eon_spec.specs.Tree.{Span, TokenTree, TokenValue, TokenTrees, KeyValues, tree, identifier, number, quoted_string, list_of, map_of, variant_of, no_trees, ◌∷ᵗ◌, no_pairs, pair}
 use Rattle.eon_spec.specs.Layout.{no_values}
 use Rattle.eon_spec.specs.Runs.{every_variant, every_variant_in, every_variant_of, every_variant_of_pairs, holds_value, fits_or_holds_one, height, height_in, height_of, height_of_pairs, depth}
-use Rattle.eon_laws.proofs.Facts.{clash, and_left, and_right}
+use Rattle.std.proofs.lemmas.Bool.{and_from}
+use Rattle.eon_laws.proofs.Facts.{and_left, and_right}
 use Rattle.eon_laws.proofs.Word.{IsString, double, single, basic, literal}
 use Rattle.eon_laws.proofs.Sources.{TreeLeaves, Leaves, AllLeaves, PairsLeaves}
 use Rattle.eon_laws.proofs.Words.{TextLeaf}
@@ -32,19 +28,19 @@ mutual
 
   pub tree_plain : (t : TokenTree) → free_tree t ≡ true → IsTree t (plain t)
   tree_plain (tree s [] v None) e = is_tree (value_plain v e)
-  tree_plain (tree s [] v (Some c)) e = clash e refl
-  tree_plain (tree s (c ∷ p) v x) e = clash e refl
+  tree_plain (tree s [] v (Some c)) e = cc
+  tree_plain (tree s (c ∷ p) v x) e = cc
 
   value_plain : (v : TokenValue) → free_in v ≡ true → IsValue v (plain_value v)
   value_plain (identifier b) e = is_identifier
   value_plain (number b) e = is_number_lem
   value_plain (quoted_string b) e = is_string
   value_plain (list_of vs []) e = is_list (trees_plain vs e)
-  value_plain (list_of vs (c ∷ cl)) e = clash e refl
+  value_plain (list_of vs (c ∷ cl)) e = cc
   value_plain (map_of kvs []) e = is_map (pairs_plain kvs e)
-  value_plain (map_of kvs (c ∷ cl)) e = clash e refl
+  value_plain (map_of kvs (c ∷ cl)) e = cc
   value_plain (variant_of n vs []) e = is_variant refl (trees_plain vs e)
-  value_plain (variant_of n vs (c ∷ cl)) e = clash e refl
+  value_plain (variant_of n vs (c ∷ cl)) e = cc
 
   trees_plain : (ts : TokenTrees) → free_all ts ≡ true → AreValues ts (plain_trees ts)
   trees_plain no_trees e = are_none
@@ -60,11 +56,8 @@ not_empty : {ts : TokenTrees} {vs : Values} → AreValues ts vs → no_values ts
 not_empty are_none = refl
 not_empty (are_more i a) = refl
 
-both : (x y : Bool) → x ≡ true → y ≡ true → x && y ≡ true
-both x y p q = rw (p, q)
-
 fits_plain : {ts : TokenTrees} {vs : Values} → AreValues ts vs → holds_value ts ≡ true → fits_or_holds_one ts ≡ true → variant_fits vs ≡ true
-fits_plain {ts} a e f = rw (not_empty a, one_line_same a, sole_equal a) at (both (holds_value ts) (fits_or_holds_one ts) e f)
+fits_plain {ts} a e f = rw (not_empty a, one_line_same a, sole_equal a) at (and_from (holds_value ts) (fits_or_holds_one ts) e f)
 
 valid : {k : TokenKind} → IsString k → is_kind k Invalid ≡ false
 valid double = refl

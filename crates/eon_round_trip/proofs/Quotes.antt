@@ -1,9 +1,7 @@
 -- The derivatives of the string rules: a string that is matched goes no further.
-use mathlib.Core.Path.{◌≡◌, refl, sym}
-use mathlib.Core.Bool.{Bool, true, false}
-use mathlib.Core.List.{List, [], ◌∷◌}
+use Rattle.std.proofs.Common.{◌≡◌, Bool, true, false, eqb, List, [], ◌∷◌, sym, refl}
 use Prim.Native.Char.{Char}
-use lib.Dec.{eqb}
+use Rattle.std.proofs.lemmas.Bool.{true_from_ne_false}
 use Rattle.eon_laws.proofs.Facts.{clash, or-false, eq_of}
 use Rattle.eon_spec.specs.Utf8.{Character, code_point}
 use Rattle.eon_spec.specs.Regex.{Item, only, in_class, Regex, never, empty, one_of, none_of, ◌then◌, ◌or◌, many, char, dot, nullable, deriv}
@@ -91,11 +89,11 @@ module _ (Q : Char) where
   long_steps {d = d} l (c ∷ s) = long_steps {d = deriv d c} (long_step l c) s
 
   long_nullable : {d : Regex} → Long d → nullable d ≡ true → d ≡ empty
-  long_nullable in_it e = clash e refl
-  long_nullable one e = clash e refl
-  long_nullable two e = clash e refl
+  long_nullable in_it e = cc
+  long_nullable one e = cc
+  long_nullable two e = cc
   long_nullable closed e = refl
-  long_nullable past e = clash e refl
+  long_nullable past e = cc
 
   after_quote : (d : Regex) (c : Character) → in_class is_q c ≡ true → deriv (quote then d) c ≡ d
   unfolding deriv
@@ -115,11 +113,7 @@ module _ (Q : Char) where
 
   -- a rule that matches a text begins with its first character
   by_class : (r : Regex) (c : Character) (s : List Character) → (in_class is_q c ≡ false → deriv r c ≡ never) → nullable (derivs r (c ∷ s)) ≡ true → in_class is_q c ≡ true
-  by_class r c s f e = go (in_class is_q c) refl
-    where
-      go : (b : Bool) → in_class is_q c ≡ b → in_class is_q c ≡ true
-      go true p = p
-      go false p = clash e (dead_nullable r c s (f p))
+  by_class r c s f e = true_from_ne_false (in_class is_q c) λ p. clash e (dead_nullable r c s (f p))
 
   -- the text behind does not begin with a quote
   abbrev pub NoQuote : List Character → Type 0
@@ -141,7 +135,7 @@ module _ (Q : Char) where
     pub short_ends : (s t : List Character) → nullable (derivs (quote then short) s) ≡ true → NoQuote t
         → Quoted s × Ends (derivs (quote then short) s) t × Ends (derivs long s) t
     unfolding deriv
-    short_ends [] t e n = clash e refl
+    short_ends [] t e n = cc
     short_ends (c ∷ s) t e n =
         let q = by_class (quote then short) c s (no_quote short c) e in
         let f : nullable (derivs short s) ≡ true = rw (after_quote short c q) at e in
@@ -160,21 +154,21 @@ module _ (Q : Char) where
             go false p = dead (quote then quote then inside) d s t (no_quote (quote then inside) d p)
 
     third : (s t : List Character) → nullable (derivs (quote then inside) s) ≡ true → Ends (derivs (quote then inside) s) t × (derivs empty s ≡ never)
-    third [] t e = clash e refl
+    third [] t e = cc
     third (c ∷ s) t e =
         let q = by_class (quote then inside) c s (no_quote inside c) e in
         let f : nullable (derivs inside s) ≡ true = rw (after_quote inside c q) at e in
         (rw (after_quote inside c q, long_nullable (long_steps in_it s) f) (empty_ends t), empty_over c s)
 
     second : (s t : List Character) → nullable (derivs (quote then quote then inside) s) ≡ true → Ends (derivs (quote then quote then inside) s) t × (derivs short s ≡ never)
-    second [] t e = clash e refl
+    second [] t e = cc
     second (c ∷ s) t e =
         let q = by_class (quote then quote then inside) c s (no_quote (quote then inside) c) e in
         let r = third s t (rw (after_quote (quote then inside) c q) at e) in
         (rw (after_quote (quote then inside) c q) r.0, rw (closes c q) r.1)
 
     pub long_ends : (s t : List Character) → nullable (derivs long s) ≡ true → Quoted s × Ends (derivs (quote then short) s) t × Ends (derivs long s) t
-    long_ends [] t e = clash e refl
+    long_ends [] t e = cc
     long_ends (c ∷ s) t e =
         let q = by_class long c s (no_long c) e in
         let r = second s t (rw (after_long c q) at e) in
@@ -209,9 +203,9 @@ module _ (Q : Char) where
   plain_steps {d = d} p (c ∷ s) = plain_steps {d = deriv d c} (plain_step p c) s
 
   plain_nullable : {d : Regex} → Plain d → nullable d ≡ true → d ≡ empty
-  plain_nullable in_it e = clash e refl
+  plain_nullable in_it e = cc
   plain_nullable closed e = refl
-  plain_nullable past e = clash e refl
+  plain_nullable past e = cc
 
   pub plain_ended : (s : List Character) → nullable (derivs plain s) ≡ true → derivs plain s ≡ empty
   plain_ended s e = plain_nullable (plain_steps in_it s) e
@@ -252,10 +246,10 @@ escaping_steps {d = d} p [] = p
 escaping_steps {d = d} p (c ∷ s) = escaping_steps {d = deriv d c} (escaping_step p c) s
 
 escaping_nullable : {d : Regex} → Escaping d → nullable d ≡ true → d ≡ empty
-escaping_nullable in_it e = clash e refl
-escaping_nullable escaped e = clash e refl
+escaping_nullable in_it e = cc
+escaping_nullable escaped e = cc
 escaping_nullable closed e = refl
-escaping_nullable past e = clash e refl
+escaping_nullable past e = cc
 
 pub escaping_ended : (s : List Character) → nullable (derivs escaping s) ≡ true → derivs escaping s ≡ empty
 escaping_ended s e = escaping_nullable (escaping_steps in_it s) e

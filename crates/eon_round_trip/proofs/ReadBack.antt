@@ -1,13 +1,6 @@
-use Rattle.std.specs.Prelude.{None}
 -- Reading the tokens of a written tree gives the tree back.
-use mathlib.Core.Path.{◌≡◌, refl, ◌∙◌, ap}
-use mathlib.Core.Bool.{Bool, true, false, ◌||◌}
-use mathlib.Core.List.{List, [], ◌∷◌}
-use Prim.Native.Nat.{ℕ, zero, suc, ◌+◌, ◌<◌}
-use native.Mathlib.Omega.{arith}
-use native.Mathlib.Nat.{not-suc-le-zero}
-use lib.ListN.{length}
-use Rattle.eon_laws.proofs.Facts.{clash, either}
+use Rattle.std.proofs.Common.{◌≡◌, ℕ, zero, suc, ◌+◌, ◌<◌, Bool, true, false, ◌||◌, List, [], ◌∷◌, length, None, refl, ap, ◌∙◌, not-suc-le-zero, arith}
+use Rattle.eon_laws.proofs.Facts.{either}
 use Rattle.eon_spec.specs.declared.token_kind.TokenKind.TheVariants.{CloseList, CloseBrace, CloseParen, Colon, Comma, Identifier, Number}
 use Rattle.eon_spec.specs.Token.{is_kind}
 use Rattle.eon_spec.specs.Tree.{Span, TokenTree, TokenTrees, tree, identifier, number, map_of}
@@ -16,7 +9,7 @@ use Rattle.eon_laws.proofs.Parse.{inside_at_good}
 use Rattle.eon_round_trip.proofs.Plain.{Value, Values, Pairs, identifierᵛ, numberᵛ, stringᵛ, listᵛ, mapᵛ, variantᵛ, noneᵛ, ◌∷ᵛ◌, noneᵖ, pairᵖ, is_identifier, is_number_lem, is_map, AreValues, are_none, are_more, IsTree, is_tree, one_lineᵛ, sole_container, is_containerᵛ, fits_sole}
 use Rattle.eon_round_trip.proofs.Pieces.{Piece, blank, placed_tokens, string_kind, tabs, line_end, closing, closing_brace, closing_paren, colon, comma, value_p, one_line_p, more_p, lines_p, pairs_p, inside_p, sole_p, shared_p, root_p}
 use Rattle.eon_round_trip.proofs.Ready.{Ready, AllReady, PairsReady, RootReady}
-use Rattle.eon_round_trip.proofs.ReadSteps.{head_kind, comments_here, at_end_here, comma_span, Back, BackList, BackMap, Starts, starts, value_starts, tabs_head, list_end, list_item, list_comma, map_end, map_pair, fewer, from_word, list_back, map_back, string_back, variant_back, shift, untab, untab_map, After, Closes, after_start, twice}
+use Rattle.eon_round_trip.proofs.ReadSteps.{head_kind, comments_here, at_end_here, comma_span, Back, BackList, BackMap, Starts, starts, value_starts, tabs_head, list_end, list_item, list_comma, map_end, map_pair, fewer, from_word, list_back, map_back, string_back, variant_back, shift, untab, untab_map, After, Closes, twice}
 
 lines_head : (vs : Values) (m n : ℕ) (k : List Piece) → AllReady m vs → Closes (head_kind k) → After (head_kind (lines_p n vs k)) × (is_kind (head_kind (lines_p n vs k)) Comma ≡ false)
 unfolding lines_p
@@ -24,7 +17,7 @@ lines_head noneᵛ m n k r c = (c.after, c.no_comma)
 lines_head (v ∷ᵛ vs) zero n k r c = absurd r
 lines_head (v ∷ᵛ vs) (suc m) n k r c =
     let s = value_starts v m n (line_end ∷ lines_p n vs k) r.0 in
-    rw (tabs_head n (value_p n v (line_end ∷ lines_p n vs k))) (after_start s, s.no_comma)
+    rw (tabs_head n (value_p n v (line_end ∷ lines_p n vs k))) (s.after, s.no_comma)
 
 pairs_head : (ps : Pairs) (m n : ℕ) (k : List Piece) → PairsReady m ps → Closes (head_kind k) → After (head_kind (pairs_p n ps k)) × (is_kind (head_kind (pairs_p n ps k)) Comma ≡ false)
 unfolding pairs_p
@@ -32,7 +25,7 @@ pairs_head noneᵖ m n k r c = (c.after, c.no_comma)
 pairs_head (pairᵖ x y ps) zero n k r c = absurd r
 pairs_head (pairᵖ x y ps) (suc m) n k r c =
     let s = value_starts x m n (colon ∷ blank 32 ∷ value_p n y (line_end ∷ pairs_p n ps k)) r.0 in
-    rw (tabs_head n (value_p n x (colon ∷ blank 32 ∷ value_p n y (line_end ∷ pairs_p n ps k)))) (after_start s, s.no_comma)
+    rw (tabs_head n (value_p n x (colon ∷ blank 32 ∷ value_p n y (line_end ∷ pairs_p n ps k)))) (s.after, s.no_comma)
 
 more_head : (vs : Values) (n : ℕ) (k : List Piece) → Closes (head_kind k) → After (head_kind (more_p n vs k))
 unfolding more_p
@@ -57,12 +50,12 @@ module _ (len : ℕ) where
 
   shared_starts : (v : Value) (n : ℕ) (k : List Piece) → is_containerᵛ v ≡ true → Starts (head_kind (shared_p n v k))
   unfolding shared_p
-  shared_starts (identifierᵛ b) n k e = clash e refl
-  shared_starts (numberᵛ b) n k e = clash e refl
-  shared_starts (stringᵛ b) n k e = clash e refl
+  shared_starts (identifierᵛ b) n k e = cc
+  shared_starts (numberᵛ b) n k e = cc
+  shared_starts (stringᵛ b) n k e = cc
   shared_starts (listᵛ vs) n k e = starts refl
   shared_starts (mapᵛ ps) n k e = starts refl
-  shared_starts (variantᵛ b vs) n k e = clash e refl
+  shared_starts (variantᵛ b vs) n k e = cc
 
   -- a last value
   sole_item : (m : ℕ) (k : List Piece) (fuel at : ℕ) (nl : Bool) (l : Span) (v : Value) (ps : List Piece) → Closes (head_kind k) → Starts (head_kind ps)
@@ -129,19 +122,19 @@ module _ (len : ℕ) where
 
     shared_back : (v : Value) (m n : ℕ) (k : List Piece) (at : ℕ) (nl : Bool) (l : Span) → Ready m v → is_containerᵛ v ≡ true → After (head_kind k)
         → Back k v (value_at len (suc (twice m)) (behind l (placed_tokens at nl (shared_p n v k))))
-    shared_back (identifierᵛ b) m n k at nl l r e a = clash e refl
-    shared_back (numberᵛ b) m n k at nl l r e a = clash e refl
-    shared_back (stringᵛ b) m n k at nl l r e a = clash e refl
+    shared_back (identifierᵛ b) m n k at nl l r e a = cc
+    shared_back (numberᵛ b) m n k at nl l r e a = cc
+    shared_back (stringᵛ b) m n k at nl l r e a = cc
     shared_back (listᵛ vs) m n k at nl l r e a =
         list_back len (inside_at len (twice m)) (line_end ∷ lines_p (suc n) vs (tabs n (closing ∷ k))) k at nl l vs a.no_comment
         (untab n (closing ∷ k) vs _ (lines_back vs m (suc n) (tabs n (closing ∷ k)) _ (at + 1 + 1) true (comma_span at) r (tabs_closes n (closing ∷ k) closes) (omega arith)))
     shared_back (mapᵛ ps) m n k at nl l r e a = map_back len (inside_at len (twice m)) (inside_p n ps (closing_brace ∷ k)) k at nl l ps a.no_comment (inside_back ps m n (closing_brace ∷ k) (at + 1) (comma_span at) r closes_brace)
-    shared_back (variantᵛ b vs) m n k at nl l r e a = clash e refl
+    shared_back (variantᵛ b vs) m n k at nl l r e a = cc
 
     sole_back : (vs : Values) (m n : ℕ) (k : List Piece) (fuel at : ℕ) (nl : Bool) (l : Span) → AllReady m vs → sole_container vs ≡ true → Closes (head_kind k) → length (placed_tokens at nl (sole_p n vs k)) < fuel
         → BackList k vs (list_contents (inside_at len (twice m)) fuel (behind l (placed_tokens at nl (sole_p n vs k))))
-    sole_back noneᵛ m n k fuel at nl l r e c h = clash e refl
-    sole_back (v ∷ᵛ (w ∷ᵛ vs)) m n k fuel at nl l r e c h = clash e refl
+    sole_back noneᵛ m n k fuel at nl l r e c h = cc
+    sole_back (v ∷ᵛ (w ∷ᵛ vs)) m n k fuel at nl l r e c h = cc
     sole_back (v ∷ᵛ noneᵛ) zero n k fuel at nl l r e c h = absurd r
     sole_back (v ∷ᵛ noneᵛ) (suc m) n k fuel at nl l r e c h =
         sole_item (suc m) k fuel at nl l v (shared_p n v k) c (shared_starts v n k e) (shared_back v m n k at nl l r.0 e c.after) h
@@ -163,7 +156,7 @@ module _ (len : ℕ) where
         let x = blank 32 ∷ value_p n w (more_p n vs k) in
         let f = fewer_left (twice (suc m)) (behind l (placed_tokens at nl ps)) (comma ∷ x) v b in
         let t = value_starts w m n (more_p n vs k) r.0 in
-        list_comma (inside_at len (twice (suc m))) ps x k fuel at nl l v (w ∷ᵛ vs) s t.no_comment b
+        list_comma (inside_at len (twice (suc m))) ps x k fuel at nl l v (w ∷ᵛ vs) s t.after.no_comment b
         (more_back vs (suc m) n k fuel (b.at + 1 + 1) false (comma_span b.at) w (value_p n w (more_p n vs k)) r.1 c t
         (value_back w m n (more_p n vs k) (b.at + 1 + 1) false (comma_span b.at) r.0 (more_head vs n k c)) (omega arith))
 
@@ -202,7 +195,7 @@ module _ (len : ℕ) where
       → map_contents value (suc fuel) (behind l (placed_tokens at nl ps)) ≡ refused (mismatch 12 b.last Colon 0) b.last.end
   unfolding map_contents consume_token
   map_fails value ps fuel at nl l w st b =
-      rw (comments_here ps at nl l st.no_comment, map_contents, at_end_here ps at nl l ∙ st.no_end, comments_here ps at nl l st.no_comment, b.eq)
+      rw (comments_here ps at nl l st.after.no_comment, map_contents, at_end_here ps at nl l ∙ st.no_end, comments_here ps at nl l st.after.no_comment, b.eq)
 
   one_of : (ts : TokenTrees) (v : Value) → AreValues ts (v ∷ᵛ noneᵛ) → (t : TokenTree) × (top_list len ts [] ≡ t) × IsTree t v
   one_of ts v (are_more {s = s} {v = x} i are_none) = (tree s [] x None, refl, is_tree i)

@@ -1,13 +1,6 @@
-use Rattle.std.specs.Prelude.{None}
 -- How the reader goes over the tokens of pieces, step by step.
-use mathlib.Core.Path.{◌≡◌, refl, sym, ◌∙◌}
-use mathlib.Core.Bool.{Bool, true, false, ◌||◌}
-use mathlib.Core.List.{List, [], ◌∷◌}
-use Prim.Native.Nat.{ℕ, zero, suc, ◌+◌, ◌<◌}
-use native.Mathlib.Nat.{not-suc-le-zero}
-use lib.ListN.{length}
-use lib.Dec.{eqb}
-use Rattle.eon_laws.proofs.Facts.{nor_left, nor_right}
+use Rattle.std.proofs.Common.{◌≡◌, ℕ, zero, suc, ◌+◌, ◌<◌, Bool, true, false, ◌||◌, eqb, List, [], ◌∷◌, length, None, sym, refl, ◌∙◌, not-suc-le-zero}
+use Rattle.std.proofs.lemmas.Bool.{or_parts}
 use Rattle.eon_spec.specs.Base.{elem}
 use Rattle.eon_spec.specs.declared.token_kind.TokenKind.{TokenKind}
 use Rattle.eon_spec.specs.declared.token_kind.TokenKind.TheVariants.{Comment, OpenList, CloseList, OpenBrace, OpenParen, Comma}
@@ -91,26 +84,31 @@ pub record BackMap (k : List Piece) (ws : Pairs) (r : Read TokenMap) : Type 0 wh
   pub eq : r ≡ read (record { key_values = vals; closing = [] }) (behind last (placed_tokens at nl k))
   pub same : ArePairs vals ws
 
+-- what may stand behind a value, and behind an inside
+pub record After (k : TokenKind) : Type 0 where
+  pub no_comment : is_kind k Comment ≡ false
+  pub no_paren : is_kind k OpenParen ≡ false
+
+pub record Closes (k : TokenKind) : Type 0 where
+  pub after : After k
+  pub no_comma : is_kind k Comma ≡ false
+  pub an_end : ends k ≡ true
+
 -- what may stand at the start of a value
 pub record Starts (k : TokenKind) : Type 0 where
-  pub no_comment : is_kind k Comment ≡ false
+  pub after : After k
   pub no_end : ends k ≡ false
   pub no_comma : is_kind k Comma ≡ false
-  pub no_paren : is_kind k OpenParen ≡ false
 
 abbrev pub unfit : TokenKind → Bool
 unfit k = is_kind k Comment || (ends k || (is_kind k Comma || is_kind k OpenParen))
 
 pub starts : {k : TokenKind} → unfit k ≡ false → Starts k
 starts {k} e =
-    let f = nor_right (is_kind k Comment) (ends k || (is_kind k Comma || is_kind k OpenParen)) e in
-    let g = nor_right (ends k) (is_kind k Comma || is_kind k OpenParen) f in
-    record {
-      no_comment = nor_left (is_kind k Comment) (ends k || (is_kind k Comma || is_kind k OpenParen)) e;
-      no_end = nor_left (ends k) (is_kind k Comma || is_kind k OpenParen) f;
-      no_comma = nor_left (is_kind k Comma) (is_kind k OpenParen) g;
-      no_paren = nor_right (is_kind k Comma) (is_kind k OpenParen) g;
-    }
+    let (c, r) = or_parts (is_kind k Comment) (ends k || (is_kind k Comma || is_kind k OpenParen)) e in
+    let (n, q) = or_parts (ends k) (is_kind k Comma || is_kind k OpenParen) r in
+    let (m, p) = or_parts (is_kind k Comma) (is_kind k OpenParen) q in
+    record { after = record { no_comment = c; no_paren = p }; no_end = n; no_comma = m }
 
 pub string_starts : {k : TokenKind} → IsString k → Starts k
 string_starts double = starts refl
@@ -156,7 +154,7 @@ module _ (value : Reader) where
         last = more.last;
         at = more.at;
         nl = more.nl;
-        eq = rw (comments_here ps at nl l st.no_comment, list_contents, at_end_here ps at nl l ∙ st.no_end, comments_here ps at nl l st.no_comment, b.eq, comma_none (tree b.place [] b.val None) k1 b.at b.nl b.last nc, more.eq);
+        eq = rw (comments_here ps at nl l st.after.no_comment, list_contents, at_end_here ps at nl l ∙ st.no_end, comments_here ps at nl l st.after.no_comment, b.eq, comma_none (tree b.place [] b.val None) k1 b.at b.nl b.last nc, more.eq);
         same = are_more b.same more.same;
       }
 
@@ -170,7 +168,7 @@ module _ (value : Reader) where
         last = more.last;
         at = more.at;
         nl = more.nl;
-        eq = rw (comments_here ps at nl l st.no_comment, list_contents, at_end_here ps at nl l ∙ st.no_end, comments_here ps at nl l st.no_comment, b.eq, comma_there b.place b.val k1 b.at b.nl b.last nc, more.eq);
+        eq = rw (comments_here ps at nl l st.after.no_comment, list_contents, at_end_here ps at nl l ∙ st.no_end, comments_here ps at nl l st.after.no_comment, b.eq, comma_there b.place b.val k1 b.at b.nl b.last nc, more.eq);
         same = are_more b.same more.same;
       }
 
@@ -199,7 +197,7 @@ module _ (value : Reader) where
         last = more.last;
         at = more.at;
         nl = more.nl;
-        eq = rw (comments_here ps at nl l st.no_comment, map_contents, at_end_here ps at nl l ∙ st.no_end, comments_here ps at nl l st.no_comment, b.eq, c.eq, comma_none (tree c.place [] c.val None) k2 c.at c.nl c.last nc, more.eq);
+        eq = rw (comments_here ps at nl l st.after.no_comment, map_contents, at_end_here ps at nl l ∙ st.no_end, comments_here ps at nl l st.after.no_comment, b.eq, c.eq, comma_none (tree c.place [] c.val None) k2 c.at c.nl c.last nc, more.eq);
         same = are_more_pairs b.same c.same more.same;
       }
 
@@ -251,7 +249,7 @@ module _ (len : ℕ) (inner : Reader) where
       → Back k (stringᵛ b) (tree_with len inner (behind l (placed_tokens at nl (word q b ∷ k))))
   unfolding string_or_variant
   string_back k at nl l q b s f g =
-      from_word k k at (at + length b) nl false l (record { start = at; end = at + length b }) q b (quoted_string b) (stringᵛ b) (string_starts s).no_comment f
+      from_word k k at (at + length b) nl false l (record { start = at; end = at + length b }) q b (quoted_string b) (stringᵛ b) (string_starts s).after.no_comment f
       (string_of s _ _ ∙ rw (next_here k (at + length b) false (record { start = at; end = at + length b }) OpenParen refl ∙ g, string_or_variant)) is_string
 
   pub variant_back : (ps k : List Piece) (at : ℕ) (nl : Bool) (l : Span) (q : TokenKind) (b : List ℕ) (ws : Values) → IsString q → is_kind (head_kind k) Comment ≡ false
@@ -260,7 +258,7 @@ module _ (len : ℕ) (inner : Reader) where
   unfolding string_or_variant consume_token next_is skip
   variant_back ps k at nl l q b ws s f r =
       from_word (opening_paren ∷ ps) k at (r.at + 1) nl false l (comma_span r.at) q b
-      (variant_of (record { span = record { start = at; end = at + length b }; bytes = b }) r.vals []) (variantᵛ b ws) (string_starts s).no_comment f
+      (variant_of (record { span = record { start = at; end = at + length b }; bytes = b }) r.vals []) (variantᵛ b ws) (string_starts s).after.no_comment f
       (string_of s _ _ ∙ rw r.eq) (is_variant refl r.same)
 
 -- twice the number
@@ -282,16 +280,3 @@ pub untab_map : (n : ℕ) (k : List Piece) (ws : Pairs) (r : Read TokenMap) → 
 untab_map n k ws r b =
     let e = shift n b.at b.nl k in
     record { vals = b.vals; last = b.last; at = e.0; nl = e.1; eq = rw e.2 at b.eq; same = b.same }
-
--- what may stand behind a value, and behind an inside
-pub record After (k : TokenKind) : Type 0 where
-  pub no_comment : is_kind k Comment ≡ false
-  pub no_paren : is_kind k OpenParen ≡ false
-
-pub record Closes (k : TokenKind) : Type 0 where
-  pub after : After k
-  pub no_comma : is_kind k Comma ≡ false
-  pub an_end : ends k ≡ true
-
-pub after_start : {k : TokenKind} → Starts k → After k
-after_start s = record { no_comment = s.no_comment; no_paren = s.no_paren }

@@ -1,8 +1,5 @@
 -- The trees that are read back: what reading and layout ask of a tree without comments.
-use mathlib.Core.Path.{◌≡◌, sym, ap, subst}
-use mathlib.Core.Bool.{true}
-use mathlib.Core.List.{List}
-use Prim.Native.Nat.{ℕ, zero, suc}
+use Rattle.std.proofs.Common.{◌≡◌, ℕ, zero, suc, true, List, sym, ap, subst}
 use Rattle.eon_spec.specs.Utf8.{chars}
 use Rattle.eon_spec.specs.declared.token_kind.TokenKind.{TokenKind}
 use Rattle.eon_spec.specs.declared.token_kind.TokenKind.TheVariants.{Identifier, Number}

@@ -1,16 +1,11 @@
 -- The written text of a tree is read back to that tree.
-use mathlib.Core.Path.{◌≡◌}
-use mathlib.Core.Bool.{true, false}
-use mathlib.Core.List.{List}
-use Prim.Native.Nat.{ℕ, ◌≤◌}
-use lib.ListN.{length}
-use lib.Dec.{eqb, eqb_refl}
-use Rattle.eon_laws.proofs.Facts.{true_of, ltb-false}
-use Rattle.eon_spec.specs.Utf8.{is_utf8, well_formed_len}
+use Rattle.std.proofs.Common.{◌≡◌, refl, ap, ◌∙◌, ℕ, ◌≤◌, true, false, List, length}
+use Rattle.eon_laws.proofs.Checked.{checked_good, good_text}
+use Rattle.eon_spec.specs.Utf8.{is_utf8}
 use Rattle.eon_spec.specs.Token.{tokens}
 use Rattle.eon_spec.specs.Tree.{TokenTree}
 use Rattle.eon_spec.specs.Parse.{parsed, parse}
-use Rattle.eon_spec.specs.Calls.{done, checked, read_text}
+use Rattle.eon_spec.specs.Calls.{done, read_text, parsed_outcome}
 use Rattle.eon_round_trip.proofs.Plain.{Value, IsTree}
 use Rattle.eon_round_trip.proofs.Pieces.{flatten, root_p}
 use Rattle.eon_round_trip.proofs.Ready.{RootReady}
@@ -18,13 +13,9 @@ use Rattle.eon_round_trip.proofs.ReadBack.{root_back}
 use Rattle.eon_round_trip.proofs.Lexing.{lex, well_formed}
 use Rattle.eon_round_trip.proofs.Parted.{root_good}
 
-formed_utf8 : (s : List ℕ) → well_formed_len s ≡ length s → is_utf8 s ≡ true
-unfolding is_utf8
-formed_utf8 s e = rw e (true_of (eqb (length s) (length s)) (eqb_refl (length s)))
-
 read_parsed : (s : List ℕ) (t : TokenTree) → length s ≤ 65535 → is_utf8 s ≡ true → parse s ≡ parsed t → read_text s ≡ done t
-unfolding read_text checked
-read_parsed s t l u e = rw (ltb-false 65535 (length s) l, checked, u, e)
+unfolding read_text
+read_parsed s t l u e = checked_good s (λ x. parsed_outcome (parse x)) l u ∙ ap parsed_outcome e
 
 root_parsed : (w : Value) → RootReady w → (t : TokenTree) × (parse (flatten (root_p w)) ≡ parsed t) × IsTree t w
 unfolding parse tokens
@@ -35,4 +26,4 @@ root_parsed w r =
 pub written_read : (w : Value) → RootReady w → length (flatten (root_p w)) ≤ 65535 → (t : TokenTree) × (read_text (flatten (root_p w)) ≡ done t) × IsTree t w
 written_read w r l =
     let p = root_parsed w r in
-    (p.0, read_parsed (flatten (root_p w)) p.0 l (formed_utf8 (flatten (root_p w)) (well_formed (root_p w) (root_good w r))) p.1, p.2)
+    (p.0, read_parsed (flatten (root_p w)) p.0 l (good_text (flatten (root_p w)) _ refl (well_formed (root_p w) (root_good w r))) p.1, p.2)

@@ -1,25 +1,19 @@
 -- Demand 3 on the definitions: a written text is read back to the same tree, and is written again alike.
-use mathlib.Core.Path.{◌≡◌, refl, sym, ◌∙◌, ap}
-use mathlib.Core.Bool.{Bool, true, false}
-use mathlib.Core.List.{List, []}
-use Prim.Native.Nat.{ℕ}
-use native.Mathlib.Omega.{arith}
-use lib.ListN.{length}
-use lib.Dec.{ltb}
-use Rattle.eon_laws.proofs.Facts.{eq_of}
-use Rattle.eon_spec.specs.Utf8.{is_utf8, well_formed_len, chars}
-use Rattle.eon_laws.proofs.Utf8.{chars_concat}
+use Rattle.std.proofs.Common.{◌≡◌, ℕ, true, false, List, [], length, sym, refl, ap, ◌∙◌}
+use Rattle.eon_spec.specs.Utf8.{chars}
+use Rattle.eon_laws.proofs.Utf8.{joined_is}
 use Rattle.eon_spec.specs.Token.{tokens}
 use Rattle.eon_spec.specs.Tree.{TokenTree, TokenValue, TokenTrees, KeyValues}
-use Rattle.eon_spec.specs.Parse.{Parsed, parsed, refused_by, parse}
+use Rattle.eon_spec.specs.Parse.{parse}
 use Rattle.eon_spec.specs.Records.{tree_records}
 use Rattle.eon_spec.specs.Layout.{defaults, format}
-use Rattle.eon_spec.specs.Calls.{Outcome, done, checked, read_text, same_records}
+use Rattle.eon_spec.specs.Calls.{Outcome, done, read_text, same_records}
 use Rattle.eon_round_trip.proofs.Plain.{Value, Values, Pairs, plain, tree_is, IsValue, is_identifier, is_number_lem, is_string, is_list, is_map, is_variant, AreValues, are_none, are_more, ArePairs, are_no_pairs, are_more_pairs, IsTree, is_tree}
 use Rattle.eon_round_trip.proofs.Pieces.{flatten, root_p}
 use Rattle.eon_round_trip.proofs.Ready.{RootReady}
 use Rattle.eon_round_trip.proofs.Written.{format_text}
 use Rattle.eon_round_trip.proofs.Round.{written_read}
+use Rattle.eon_laws.proofs.Numbers.{read_done}
 use Rattle.eon_laws.proofs.Chars.{chars_are}
 use Rattle.eon_laws.proofs.Sources.{TreeLeaves, tree_leaves}
 use Rattle.eon_laws.proofs.Words.{TextLeaf, leaves_from}
@@ -28,24 +22,12 @@ use Rattle.eon_round_trip.proofs.NoComments.{free_tree, free_in, free_all, free_
 use Rattle.eon_round_trip.proofs.Premises.{tree_plain, tree_ready}
 use Rattle.eon_round_trip.proofs.Compare.{compared_equal, equal_compared}
 
--- a text that is read is well-formed, and parses
-pub read_inv : (s : List ℕ) (t : TokenTree) → read_text s ≡ done t → (is_utf8 s ≡ true) × (parse s ≡ parsed t)
-unfolding read_text checked
-read_inv s t e = go (ltb 65535 (length s)) (is_utf8 s) (parse s) refl refl refl e
-  where
-    go : (x y : Bool) (p : Parsed) → ltb 65535 (length s) ≡ x → is_utf8 s ≡ y → parse s ≡ p → read_text s ≡ done t → (is_utf8 s ≡ true) × (parse s ≡ parsed t)
-    go true y p e f g h = absurd (let k = rw (e, checked) at h in let z : ◌≡◌ {A = ℕ} 0 1 = cc in omega arith)
-    go false false p e f g h = absurd (let k = rw (e, checked, f) at h in let z : ◌≡◌ {A = ℕ} 0 1 = cc in omega arith)
-    go false true (refused_by r) e f g h = absurd (let k = rw (e, checked, f, g) at h in let z : ◌≡◌ {A = ℕ} 0 1 = cc in omega arith)
-    go false true (parsed u) e f g h = let k = rw (e, checked, f, g) at h in (f, g ∙ ap parsed cc)
-
 -- each leaf of its tree is a token that stands in the text
 pub text_leaves : (s : List ℕ) (t : TokenTree) → read_text s ≡ done t → TreeLeaves (TextLeaf s) t
-unfolding parse tokens is_utf8 well_formed_len chars
+unfolding parse tokens chars
 text_leaves s t e =
-    let r = read_inv s t e in
-    let w : well_formed_len s ≡ length s = eq_of (well_formed_len s) (length s) r.0 in
-    tree_leaves (TextLeaf s) (length s) (tokens s) t (leaves_from s 0 0 false (chars s) [] (chars_are 0 s) (sym (chars_concat 0 s (omega arith) w)) refl) r.1
+    let r = read_done s t e in
+    tree_leaves (TextLeaf s) (length s) (tokens s) t (leaves_from s 0 0 false (chars s) [] (chars_are 0 s) (sym (joined_is s r.0)) refl) r.1
 
 mutual
   unfolding free_tree

@@ -1,15 +1,10 @@
 -- Demand 3 on the outcomes of the calls: the afternoon run, the evening run on what it wrote, and two such rows.
-use mathlib.Core.Path.{◌≡◌, sym, ◌∙◌, ap}
-use mathlib.Core.Bool.{Bool, true, false}
-use mathlib.Core.List.{List}
-use Prim.Native.Nat.{ℕ, ◌*◌, ◌≤◌}
-use lib.ListN.{length, drop}
-use lib.Seq.{take-append_seam}
+use Rattle.std.proofs.Common.{◌≡◌, ℕ, ◌*◌, ◌≤◌, Bool, true, false, List, length, drop, sym, ap, ◌∙◌, take_at, refl}
 use Rattle.eon_spec.specs.declared.Run.{Run}
 use Rattle.eon_spec.specs.Tree.{TokenTree}
 use Rattle.eon_spec.specs.Records.{tree_records, words}
 use Rattle.eon_spec.specs.Layout.{defaults, default_options, format}
-use Rattle.eon_spec.specs.Calls.{Outcome, outcome_of, done, refused_with, nowhere, after, written, read_text, read_call, read_finished, is_finished, format_call, same_records, compare_call}
+use Rattle.eon_spec.specs.Calls.{Outcome, outcome_of, done, refused_with, nowhere, after, written, read_text, read_call, read_finished, is_finished, format_call}
 use Rattle.eon_spec.specs.Runs.{Premises, Suffices, wrote, run_writes, evening_text, IsRun, Leaves, TwoRuns, ShareText}
 use Rattle.eon_laws.proofs.Facts.{list_same}
 use Rattle.eon_laws.proofs.Records.{words_length}
@@ -28,7 +23,7 @@ module _ (s : List ℕ) (t : TokenTree) (e : read_text s ≡ done t) where
 
   finished : (old : List ℕ) → is_finished (written (words (tree_records t)) old) t ≡ true
   unfolding is_finished
-  finished old = rw (take-append_seam (words (tree_records t)) (drop (length (words (tree_records t))) old)) (list_same (words (tree_records t)))
+  finished old = rw (take_at (words (tree_records t)) (drop (length (words (tree_records t))) old) _ refl) (list_same (words (tree_records t)))
 
   -- the table just filled is finished
   pub found_finished : (old : List ℕ) → read_finished s (written (words (tree_records t)) old) ≡ done t
@@ -51,7 +46,7 @@ leaves s t table out r table' out' e m i =
 
 -- the text that it wrote
 wrote_text : (b out : List ℕ) → wrote (after (done (length b)) (written b out)) ≡ b
-wrote_text b out = take-append_seam b (drop (length b) out)
+wrote_text b out = take_at b (drop (length b) out) _ refl
 
 evening_is : (s : List ℕ) (t : TokenTree) (table out : List ℕ) → read_text s ≡ done t → Suffices t table out → evening_text s table out ≡ format defaults t
 evening_is s t table out e m =
@@ -83,9 +78,3 @@ module _ (s : List ℕ) (a : TokenTree) (p : Premises s a) (table1 out1 : List �
       let x : wrote (after (outcome_of r1.written) out1') ≡ format defaults a = ap wrote i1.writes ∙ evening_is s a table1 out1 p.accepted m1 in
       let y : wrote (after (outcome_of r2.written) out2') ≡ format defaults b = ap wrote i2.writes ∙ evening_is t b table2 out2 q.accepted m2 in
       (λ w. written_compared s a p t b q (sym x ∙ w ∙ y), λ c. x ∙ compared_written s a p t b q c ∙ sym y)
-
--- the comparison call on two tables just filled
-pub tables_compared : (s : List ℕ) (a : TokenTree) (t : List ℕ) (b : TokenTree) (old1 old2 : List ℕ) → read_text s ≡ done a → read_text t ≡ done b
-    → compare_call s (written (words (tree_records a)) old1) t (written (words (tree_records b)) old2) ≡ done (same_records s (tree_records a) t (tree_records b))
-unfolding compare_call
-tables_compared s a t b old1 old2 e f = rw (found_finished s a e old1, found_finished t b f old2)

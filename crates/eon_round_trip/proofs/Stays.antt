@@ -1,10 +1,6 @@
 -- A token stays the longest one before any byte that layout writes behind it.
-use mathlib.Core.Path.{◌≡◌, refl, sym, ◌∙◌}
-use mathlib.Core.Bool.{Bool, true, false, ◌||◌}
-use mathlib.Core.List.{List, [], ◌∷◌, ◌++◌}
-use Prim.Native.Nat.{ℕ, suc}
-use lib.ListN.{length, take, drop}
-use lib.Dec.{eqb}
+use Rattle.std.proofs.Common.{◌≡◌, ℕ, suc, Bool, true, false, ◌||◌, eqb, List, [], ◌∷◌, ◌++◌, length, take, drop, sym, refl, ◌∙◌}
+use Rattle.std.proofs.lemmas.Bool.{true_from_ne_false}
 use Rattle.eon_laws.proofs.Facts.{nor_left, nor_right, clash, or-false, eq_of}
 use Rattle.eon_spec.specs.Base.{within}
 use Rattle.eon_spec.specs.Utf8.{Character, code_point}
@@ -73,11 +69,7 @@ run_ends f k c s t e n = rw (one_true f c e) (many_ends k s t n)
 
 run_first : (f : List Item) (r : Regex) (c : Character) (s : List Character) → nullable (derivs (one_of f then r) (c ∷ s)) ≡ true → in_class f c ≡ true
 unfolding deriv
-run_first f r c s e = go (in_class f c) refl
-  where
-    go : (b : Bool) → in_class f c ≡ b → in_class f c ≡ true
-    go true p = p
-    go false p = clash e (dead_nullable (one_of f then r) c s (rw (one_false f c p)))
+run_first f r c s e = true_from_ne_false (in_class f c) λ p. clash e (dead_nullable (one_of f then r) c s (rw (one_false f c p)))
 
 exactly : (n : ℕ) (c : Character) → eqb n (code_point c) ≡ true → code_point c ≡ n
 exactly n c e = sym (eq_of n (code_point c) e)

@@ -1,9 +1,5 @@
-use Rattle.std.specs.Prelude.{None}
 -- The layout of a tree without comments is its pieces in a row.
-use mathlib.Core.Path.{◌≡◌, refl, sym, ◌∙◌, ap}
-use mathlib.Core.Bool.{Bool, true, false, ◌&&◌}
-use mathlib.Core.List.{List, [], ◌∷◌, ◌++◌, append_assoc, append-nil}
-use Prim.Native.Nat.{ℕ, zero, suc}
+use Rattle.std.proofs.Common.{◌≡◌, ℕ, zero, suc, Bool, true, false, ◌&&◌, List, [], ◌∷◌, ◌++◌, None, sym, refl, ap, ◌∙◌, append_assoc, append-nil}
 use Rattle.eon_laws.proofs.Facts.{clash}
 use Rattle.eon_spec.specs.Tree.{Span, Slice, TokenTree, TokenValue, TokenTrees, KeyValues, tree, list_of, map_of, variant_of, ◌∷ᵗ◌, no_pairs, pair}
 use Rattle.eon_spec.specs.Layout.{defaults, no_values, no_key_values, count_trees, simple_value, is_simple, is_number, is_number_tree, value_width, all_trees, sum_widths, values_on_one_line, on_one_line, is_sole_container, add_indent, gap, value, one_line, list_content, map_content, shared_first, shared, format}

@@ -1,11 +1,5 @@
-use Rattle.std.specs.Prelude.{None}
 -- Demand 3 on a file: what the promise of `two_runs` says of `1 2`, in answers, words and bytes; and lent memory at its edge.
-use mathlib.Core.Path.{◌≡◌, refl}
-use mathlib.Core.Bool.{Bool, true, false}
-use mathlib.Core.List.{List, [], ◌∷◌, ◌++◌}
-use Prim.Native.Nat.{ℕ, ◌+◌}
-use native.Mathlib.Omega.{arith}
-use lib.ListN.{replicate}
+use Rattle.std.proofs.Common.{◌≡◌, ℕ, ◌+◌, Bool, true, false, List, [], ◌∷◌, ◌++◌, replicate, None, refl, arith}
 use Rattle.eon_spec.specs.declared.Run.{Run}
 use Rattle.eon_spec.specs.declared.Runs.{Runs}
 use Rattle.eon_spec.specs.Tree.{TokenTree, tree, number, list_of, no_trees, ◌∷ᵗ◌}
@@ -127,4 +121,4 @@ module _ (r q : Run) (out end : List ℕ) where
   -- `1 2` and `1 3` have not
   not_shared : ShareText (bytes "1 2") t12 r out (bytes "1 3") (pair_of 49 51) q end → wrote (after (outcome_of r.written) out) ≡ wrote (after (outcome_of q.written) end) → ⊥
   unfolding reads bytes
-  not_shared h e = let y : ◌≡◌ {A = Bool} false true = h.0 e in let z : ◌≡◌ {A = ℕ} 0 1 = cc in omega arith
+  not_shared h e = let y : ◌≡◌ {A = Bool} false true = h.0 e in cc

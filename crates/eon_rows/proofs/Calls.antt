@@ -1,14 +1,9 @@
 -- Whole calls, by computing: 14, 15 and 16 in their order, and what the lent memory holds behind an answer and behind a refusal
 -- (document 01, "Refusals at the desk"). The original lends no memory: the answers are the paper's.
-use mathlib.Core.Path.{◌≡◌, refl}
-use mathlib.Core.Bool.{true, false}
-use mathlib.Core.List.{List, [], ◌∷◌, ◌++◌, map}
-use Prim.Native.Nat.{ℕ}
-use lib.ListN.{replicate, take}
+use Rattle.std.proofs.Common.{◌≡◌, ℕ, true, false, List, [], ◌∷◌, ◌++◌, map, take, replicate, Ok, Err, refl}
 use Rattle.eon_spec.specs.declared.FormatOptions.{FormatOptions}
 use Rattle.eon_spec.specs.declared.Setting.{Setting}
 use Rattle.eon_spec.specs.declared.Which.TheVariants.{Quoted, Scratch}
-use Rattle.std.specs.Prelude.{Ok, Err}
 use Rattle.eon_spec.specs.declared.refusal.Refusal as program
 use Rattle.eon_spec.specs.declared.refusal.Reason.{Reason}
 use Rattle.eon_spec.specs.declared.refusal.Reason.TheVariants.{Overlong, Garbled, Stray, TooDeep, MissingValue, UnbalancedList, UnbalancedBrace, UnbalancedParen, Nameless, NoValue, Mismatch, CutOff, Surplus, NoSpace, Stale, BadSettings, NoOpeningQuote, NoClosingQuote, LineBreak, EndsInBackslash, UnknownEscape, NoBrace, NinthDigit, ForeignCharacter, NotClosed, NoScalarValue, NoByte, NoPaths}

@@ -1,5 +1,5 @@
 -- Document 01's comparison of two trees, by rows. The answers are those of the original's trees.
-use mathlib.Core.Path.{refl}
+use Rattle.std.proofs.Common.{refl}
 use Rattle.eon_rows.proofs.Computing.{compares, bytes, ◌equals◌, ◌differs_from◌}
 
 -- ---- "as many records, and in each pair of records equal kinds, sizes and text bytes (name bytes for variants; none for lists and maps), spans aside"

@@ -1,10 +1,6 @@
 -- The calls under names that unfold all the way, so that a worked example is a row `by computing`, and the words of such rows.
-use mathlib.Core.Path.{◌≡◌}
-use Prim.Native.Nat.{ℕ, zero, suc, ◌-◌, ◌*◌}
+use Rattle.std.proofs.Common.{◌≡◌, ℕ, zero, suc, ◌-◌, ◌*◌, Bool, true, false, List, [], ◌∷◌, ◌++◌, length, take, replicate}
 use Prim.Native.String.{String}
-use mathlib.Core.Bool.{Bool, true, false}
-use mathlib.Core.List.{List, [], ◌∷◌, ◌++◌}
-use lib.ListN.{length, take, replicate}
 use Rattle.eon_spec.specs.Utf8.{utf8, encode, encode_char, decode, chars_from, chars, char_len, is_utf8, well_formed_len, well_formed_from}
 use Rattle.eon_spec.specs.Regex.{deriv, longest}
 use Rattle.eon_spec.specs.Token.{Token, kind_number, tokens, tokens_from, longest_rule, rules}

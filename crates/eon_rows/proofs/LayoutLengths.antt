@@ -1,8 +1,5 @@
 -- How long layouts get, by computing: the bound on their length has the right order, and its indentation of 65 is met.
-use mathlib.Core.Path.{◌≡◌, refl}
-use mathlib.Core.List.{List, ◌++◌}
-use Prim.Native.Nat.{ℕ}
-use lib.ListN.{length, replicate}
+use Rattle.std.proofs.Common.{◌≡◌, ℕ, List, ◌++◌, length, replicate, refl}
 use Rattle.eon_rows.proofs.Computing.{writes, bytes, repeated}
 
 -- the length of a text and of its layout, with a 0 for an accepted text before it

@@ -1,8 +1,5 @@
 -- Document 01's "Layout", a row for each sentence that a wrong reading would break. The written texts are the original's.
-use mathlib.Core.Path.{◌≡◌, refl}
-use mathlib.Core.Bool.{true, false}
-use mathlib.Core.List.{◌∷◌, ◌++◌}
-use lib.ListN.{replicate}
+use Rattle.std.proofs.Common.{◌≡◌, true, false, ◌∷◌, ◌++◌, replicate, refl}
 use Rattle.eon_rows.proofs.Computing.{writes, writes_by, settings, bytes, repeated, ◌is_written◌}
 
 -- ---- the root

@@ -1,9 +1,6 @@
 -- Demand 3's premise on the written text's length, by computing: 65,535 bytes meet it, and of one byte more the evening refuses the text.
 -- In a module of its own, since each row takes seconds.
-use mathlib.Core.Path.{◌≡◌, refl}
-use mathlib.Core.List.{List, [], ◌∷◌, ◌++◌}
-use Prim.Native.Nat.{ℕ}
-use lib.ListN.{replicate, take, drop}
+use Rattle.std.proofs.Common.{◌≡◌, ℕ, List, [], ◌∷◌, ◌++◌, take, drop, replicate, refl}
 use Rattle.eon_rows.proofs.Computing.{reads, writes, bytes}
 use Rattle.eon_rows.proofs.Premises.{met, all_met}
 

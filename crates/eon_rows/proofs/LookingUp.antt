@@ -1,13 +1,8 @@
 -- Many names in one walk (document 02, L2), by rows: which path texts are lists of paths, the values that each path reaches, the steps, the
 -- refusals, and what is handed back. The answers are the paper's, of the original's trees.
-use mathlib.Core.Path.{◌≡◌, refl}
-use mathlib.Core.List.{List, [], ◌∷◌, ◌++◌}
-use Prim.Native.Nat.{ℕ, zero, suc}
-use native.Mathlib.Omega.{arith}
-use lib.ListN.{replicate}
+use Rattle.std.proofs.Common.{◌≡◌, ℕ, zero, suc, List, [], ◌∷◌, ◌++◌, replicate, Ok, Err, Result, refl, arith}
 use Rattle.eon_spec.specs.declared.Found.{Found}
 use Rattle.eon_spec.specs.Refused.{Refusal}
-use Rattle.std.specs.Prelude.{Result, Ok, Err}
 use Rattle.eon_spec.specs.declared.refusal.Refusal as program
 use Rattle.eon_spec.specs.declared.refusal.Reason.TheVariants.{NoPaths}
 use Rattle.eon_spec.specs.Parse.{refusal}
@@ -319,10 +314,10 @@ second_of_two : SomeOf (2 ∷ 4 ∷ []) 4
 second_of_two = refl
 
 neither_of_two : SomeOf (2 ∷ 4 ∷ []) 3 → ⊥
-neither_of_two e = absurd (let z : ◌≡◌ {A = ℕ} 0 1 = cc in omega arith)
+neither_of_two e = cc
 
 not_none : SomeOf (2 ∷ []) 4294967295 → ⊥
-not_none e = absurd (let z : ◌≡◌ {A = ℕ} 0 1 = cc in omega arith)
+not_none e = cc
 
 none_alone : SomeOf [] 4294967295
 none_alone = refl
@@ -355,7 +350,7 @@ none_missing h = h.finds
 
 -- a lookup that is answered is not refused, and counts its steps
 not_refused : (ws : List ℕ) → IsLookup (finds 1 []) (found_by (Err form_refused) ws) → ⊥
-not_refused ws h = absurd (let k = h.counts in let z : ◌≡◌ {A = ℕ} 0 1 = cc in omega arith)
+not_refused ws h = let k = h.counts in cc
 
 steps_counted : (ws : List ℕ) → IsLookup (finds 1 []) (found_by (Ok 3) ws) → ⊥
-steps_counted ws h = absurd (let k = h.counts in let z : ◌≡◌ {A = ℕ} 3 1 = cc in omega arith)
+steps_counted ws h = let k = h.counts in cc

@@ -1,7 +1,5 @@
 -- Answers of the original as rows, printed by `oracle rows 240 1`: cases of all kinds by their shares, of at most 80 bytes.
-use mathlib.Core.Path.{◌≡◌, refl}
-use mathlib.Core.Bool.{true, false}
-use mathlib.Core.List.{[], ◌∷◌}
+use Rattle.std.proofs.Common.{◌≡◌, true, false, [], ◌∷◌, refl}
 use Rattle.eon_rows.proofs.Computing.{reads, writes_by, settings, shows, tokens_of, ident, compares, bytes}
 
 row0 : tokens_of (9 ∷ 12 ∷ []) ≡ 0 ∷ []

@@ -1,9 +1,6 @@
 -- A place picked on the screen (document 02, L1), by rows: the record at a byte offset, the records in a byte range. The answers are the
 -- paper's, of the original's trees.
-use mathlib.Core.Path.{◌≡◌, refl}
-use mathlib.Core.List.{List, [], ◌∷◌}
-use Prim.Native.Nat.{ℕ}
-use lib.ListN.{replicate}
+use Rattle.std.proofs.Common.{◌≡◌, ℕ, List, [], ◌∷◌, replicate, refl}
 use Rattle.eon_spec.specs.declared.Hit.{Hit}
 use Rattle.eon_spec.specs.Parse.{refusal}
 use Rattle.eon_spec.specs.Calls.{done, refused_with, nowhere, after}

@@ -1,13 +1,6 @@
 -- The premises of demand 3 (document 01, "Afternoon and evening"), by computing: texts at the edge of each meet them, and each is needed
 -- (for the written text's length: LongestWritten; for lent memory: AfternoonEvening).
-use mathlib.Core.Path.{◌≡◌, refl, ap}
-use mathlib.Core.Bool.{Bool, true, false}
-use mathlib.Core.List.{List, [], ◌∷◌, ◌++◌}
-use Prim.Native.Nat.{ℕ}
-use native.Mathlib.Omega.{arith}
-use lib.ListN.{length, replicate, take, drop}
-use lib.Dec.{leb}
-use borrow.Author.Tests.{le-leb, leb-true}
+use Rattle.std.proofs.Common.{◌≡◌, ℕ, Bool, true, false, leb, List, [], ◌∷◌, ◌++◌, length, take, drop, replicate, refl, ap, arith, le-leb, leb-true}
 use Rattle.eon_spec.specs.Tree.{TokenTree}
 use Rattle.eon_spec.specs.Layout.{defaults, format}
 use Rattle.eon_spec.specs.Calls.{Outcome, done, refused_with, then, read_text}
@@ -35,11 +28,11 @@ premises_met s t p = rw p.accepted (rw p.no_comments (rw p.no_empty_variant (rw 
 
 each : (a b c d e : Bool) → truth a ++ truth b ++ truth c ++ truth d ++ truth e ≡ 1 ∷ 1 ∷ 1 ∷ 1 ∷ 1 ∷ [] → (a ≡ true) × (b ≡ true) × (c ≡ true) × (d ≡ true) × (e ≡ true)
 each true true true true true h = (refl, refl, refl, refl, refl)
-each false b c d e h = let y : ◌≡◌ {A = ℕ} 0 1 = cc in absurd (omega arith)
-each true false c d e h = let y : ◌≡◌ {A = ℕ} 0 1 = cc in absurd (omega arith)
-each true true false d e h = let y : ◌≡◌ {A = ℕ} 0 1 = cc in absurd (omega arith)
-each true true true false e h = let y : ◌≡◌ {A = ℕ} 0 1 = cc in absurd (omega arith)
-each true true true true false h = let y : ◌≡◌ {A = ℕ} 0 1 = cc in absurd (omega arith)
+each false b c d e h = cc
+each true false c d e h = cc
+each true true false d e h = cc
+each true true true false e h = cc
+each true true true true false h = cc
 
 met_premises : (s : List ℕ) → met s ≡ all_met → (t : TokenTree) × Premises s t
 unfolding met tests

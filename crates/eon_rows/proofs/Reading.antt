@@ -1,8 +1,6 @@
 -- Document 01's "Reading the sheet", a row for each sentence that a wrong reading would break: five words a record, or number, start,
 -- end, expected and found kind of a refusal. The answers are the original's.
-use mathlib.Core.Path.{◌≡◌, refl}
-use mathlib.Core.List.{[], ◌∷◌, ◌++◌}
-use lib.ListN.{replicate}
+use Rattle.std.proofs.Common.{◌≡◌, [], ◌∷◌, ◌++◌, replicate, refl}
 use Rattle.eon_rows.proofs.Computing.{reads, bytes, repeated, ◌has_records◌, ◌is_refused◌}
 
 -- ---- the text as a map's inside, then as a list's

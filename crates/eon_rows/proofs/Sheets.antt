@@ -1,7 +1,5 @@
 -- Document 01's "Sheets to try", by computing: P1 to P12 are the rows of one table, and the other sheets stand below it.
-use mathlib.Core.Path.{◌≡◌, refl}
-use mathlib.Core.List.{[], ◌∷◌, ◌++◌}
-use lib.ListN.{replicate, take}
+use Rattle.std.proofs.Common.{◌≡◌, [], ◌∷◌, ◌++◌, take, replicate, refl}
 use Rattle.eon_rows.proofs.Computing.{reads, writes, shows, bytes, ◌has_records◌, ◌is_refused◌, ◌is_written◌, ◌is_no_string◌}
 
 sheets :

@@ -1,9 +1,6 @@
 -- Which bytes are a text, at the edges of the Unicode standard's Table 3-7 and of the length: refusals 1 and 2 (document 01, "Refusals
 -- at the desk"). The rows on lone texts agree with the original.
-use mathlib.Core.Path.{◌≡◌, refl}
-use mathlib.Core.List.{[], ◌∷◌}
-use Prim.Native.Nat.{ℕ}
-use lib.ListN.{replicate}
+use Rattle.std.proofs.Common.{◌≡◌, ℕ, [], ◌∷◌, replicate, refl}
 use Rattle.eon_spec.specs.Utf8.{Boundary}
 use Rattle.eon_spec.specs.Parse.{refusal}
 use Rattle.eon_spec.specs.Calls.{done, refused_with, place, checked, read_text}

@@ -1,9 +1,6 @@
-use Rattle.std.specs.Prelude.{None, Some}
 -- Document 01's "Tokens", by rows: kind, start and end of each token, 0 for an invalid one. The answers are the original's over the printed
 -- rules.
-use mathlib.Core.Path.{◌≡◌, refl}
-use mathlib.Core.Bool.{false}
-use mathlib.Core.List.{[], ◌∷◌}
+use Rattle.std.proofs.Common.{◌≡◌, false, [], ◌∷◌, Some, None, refl}
 use Rattle.eon_spec.specs.declared.token_kind.TokenKind.TheVariants.{Comma}
 use Rattle.eon_spec.specs.Token.{token_from}
 use Rattle.eon_rows.proofs.Computing.{tokens_of, bytes, ◌has_tokens◌}

@@ -1,9 +1,6 @@
 -- Document 01's "Unquoting", a row for each sentence that a wrong reading would break: the value as it is shown behind unquoting, or
 -- the refusal's number; and the identifier test. The values and numbers are the original's.
-use mathlib.Core.Path.{◌≡◌, refl}
-use mathlib.Core.List.{List, [], ◌∷◌, ◌++◌, map}
-use Prim.Native.Nat.{ℕ}
-use lib.ListN.{replicate}
+use Rattle.std.proofs.Common.{◌≡◌, ℕ, List, [], ◌∷◌, ◌++◌, map, replicate, refl}
 use Rattle.eon_spec.specs.Utf8.{encode, encode_char}
 use Rattle.eon_rows.proofs.Computing.{shows, ident, bytes, ◌unquotes_to◌, ◌is_no_string◌}
 

@@ -1,22 +1,12 @@
-use Rattle.std.specs.Prelude.{Option, None, Some}
 -- A finished table holds its tree, and its records are the tree's.
-use Prim.Native.Nat.{ℕ, suc, ◌+◌, ◌-◌, ◌≤◌, ◌<◌}
-use mathlib.Core.Path.{◌≡◌, refl, sym, ap, ◌∙◌, subst}
-use mathlib.Core.Bool.{Bool, true, false, ◌&&◌}
-use mathlib.Core.List.{List, [], ◌∷◌, ◌++◌, append_assoc}
-use native.Mathlib.Omega.{arith}
-use native.Mathlib.Nat.{add-zero}
-use native.Mathlib.Numerals.{add-one}
-use lib.ListN.{length, take, get_or, length-append, length-take}
-use lib.Seq.{get_or-append_seam}
-use lib.Dec.{ltb, eqb}
-use borrow.Author.Tests.{le-ltb, ne_eqb, lt-ltb, eq-eqb}
-use Rattle.eon_spec.specs.Utf8.{is_utf8}
+use Rattle.std.proofs.lemmas.List.{get_or_at}
+use Rattle.std.proofs.Common.{◌≡◌, ℕ, suc, ◌+◌, ◌-◌, ◌<◌, ◌≤◌, Bool, true, false, ◌&&◌, eqb, ltb, List, [], ◌∷◌, ◌++◌, length, get_or, take, Some, None, Option, sym, refl, ap, ◌∙◌, subst, append_assoc, add-zero, add-one, arith, length-append, length-take, le-ltb, lt-ltb, eq-eqb, ne_eqb}
 use Rattle.eon_spec.specs.Tree.{Span, Slice, TokenTree, TokenValue, TokenTrees, KeyValues, tree, identifier, number, quoted_string, list_of, map_of, variant_of, no_trees, ◌∷ᵗ◌, no_pairs, pair}
 use Rattle.eon_spec.specs.Refused.{Refusal}
-use Rattle.eon_spec.specs.Parse.{Parsed, parsed, refused_by, parse}
 use Rattle.eon_spec.specs.Records.{Record, record_at, leaf, comments, suffix, tree_records, value_records, trees_records, pairs_records, words}
-use Rattle.eon_spec.specs.Calls.{Outcome, done, refused_with, nowhere, checked, parsed_outcome, read_text, then, is_finished, read_finished}
+use Rattle.eon_spec.specs.Calls.{Outcome, done, refused_with, nowhere, read_text, then, is_finished, read_finished}
+use Rattle.std.proofs.lemmas.Bool.{and_right}
+use Rattle.eon_laws.proofs.Numbers.{read_done}
 use Rattle.eon_laws.proofs.Facts.{list_eq}
 use Rattle.eon_laws.proofs.Places.{Holds}
 use Rattle.eon_laws.proofs.Spans.{HoldsAll, HoldsSuffix, TreeFits, ValueFits, TreesFit, PairsFit, tree_fits}
@@ -80,13 +70,9 @@ module _ (s tb : List ℕ) where
   unfolding has_suffix
   clear_end end i h = ap (λ (x : Bool). x && eqb (word tb i 0) 8) (le-ltb i end h)
 
-  and_no : (a : Bool) → (a && false) ≡ false
-  and_no true = refl
-  and_no false = refl
-
   clear_kind : (end i : ℕ) → (word tb i 0 ≡ 8 → ⊥) → Clear end i
   unfolding has_suffix
-  clear_kind end i h = ap (λ (x : Bool). ltb i end && x) (ne_eqb (word tb i 0) 8 h) ∙ and_no (ltb i end)
+  clear_kind end i h = and_right (ltb i end) (eqb (word tb i 0) 8) (ne_eqb (word tb i 0) 8 h)
 
   suffix_at : (end i : ℕ) (x : Option Slice) → RecordsAt tb i (suffix x) → HoldsSuffix s x → i + suffix_size x ≤ end → (x ≡ None → Clear end i) → SuffixAt s tb end i x
   unfolding has_suffix
@@ -219,23 +205,7 @@ module _ (s tb : List ℕ) where
 -- ---- what a finished table says
 
 pub refusal_done : {A B : Type 0} (r : Refusal) (a : A) → refused_with r ≡ done a → B
-refusal_done r a e = let z : ◌≡◌ {A = ℕ} 0 1 = cc in absurd (omega arith)
-
-read_checked : (s : List ℕ) (t : TokenTree) → read_text s ≡ done t → (is_utf8 s ≡ true) × (parse s ≡ parsed t)
-unfolding read_text checked
-read_checked s t e = go (ltb 65535 (length s)) refl
-  where
-    last : (p : Parsed) → parsed_outcome p ≡ done t → p ≡ parsed t
-    last (parsed u) f = cc
-    last (refused_by r) f = refusal_done r t f
-
-    text : (b : Bool) → is_utf8 s ≡ b → ltb 65535 (length s) ≡ false → (is_utf8 s ≡ true) × (parse s ≡ parsed t)
-    text true p q = (p, last (parse s) (rw (q, checked, p) at e))
-    text false p q = refusal_done _ t (rw (q, checked, p) at e)
-
-    go : (b : Bool) → ltb 65535 (length s) ≡ b → (is_utf8 s ≡ true) × (parse s ≡ parsed t)
-    go true p = refusal_done _ t (rw (p, checked) at e)
-    go false p = text (is_utf8 s) refl p
+refusal_done r a e = cc
 
 module _ (s tb : List ℕ) where
   -- the text is read, and the table begins with the tree's words
@@ -244,21 +214,21 @@ module _ (s tb : List ℕ) where
   finished_words t e = go (read_text s) refl e
     where
       go : (x : Outcome TokenTree) → read_text s ≡ x → then x (λ u. elim (is_finished tb u) [ true ↦ done u | false ↦ refused_with (nowhere 15) ]) ≡ done t → (read_text s ≡ done t) × (take (length (words (tree_records t))) tb ≡ words (tree_records t))
-      go (refused_with r) p f = refusal_done r t f
+      go (refused_with r) p f = cc
       go (done u) p f = same (is_finished tb u) refl f
         where
           same : (b : Bool) → is_finished tb u ≡ b → elim b as (λ x. Outcome TokenTree) [ true ↦ done u | false ↦ refused_with (nowhere 15) ] ≡ done t → (read_text s ≡ done t) × (take (length (words (tree_records t))) tb ≡ words (tree_records t))
           same true q g =
               let z : u ≡ t = cc in
               (p ∙ ap done z, list_eq (take (length (words (tree_records t))) tb) (words (tree_records t)) (ap (is_finished tb) (sym z) ∙ q))
-          same false q g = refusal_done _ t g
+          same false q g = cc
 
   -- from the definition's outcome
   pub read_finished_lem : (t : TokenTree) → read_finished s tb ≡ done t → Finished s tb (length (tree_records t)) t
   read_finished_lem t e =
       let w = words (tree_records t) in
       let x = finished_words t e in
-      let r = read_checked s t x.0 in
+      let r = read_done s t x.0 in
       let q : take (length w) tb ≡ w = x.1 in
       let a : records_of tb 0 (length (tree_records t)) ≡ tree_records t = records_front tb (tree_records t) q in
       let m : length (tree_records t) ≡ tree_size t = tree_size_lem t in
@@ -277,7 +247,7 @@ module _ (s tb : List ℕ) where
   finished_done n e = go (read_finished s tb) refl e
     where
       go : (o : Outcome TokenTree) → read_finished s tb ≡ o → done n ≡ then o (λ t. done (length (tree_records t))) → SomeFinished s tb n
-      go (refused_with r) q f = refusal_done r n (sym f)
+      go (refused_with r) q f = cc
       go (done t) q f = let z : n ≡ length (tree_records t) = cc in (t, subst (λ (m : ℕ). Finished s tb m t) (sym z) (read_finished_lem t q))
 
   pub finished_refused : (r : Refusal) → refused_with r ≡ then (read_finished s tb) (λ t. done (length (tree_records t))) → read_finished s tb ≡ refused_with r
@@ -285,7 +255,7 @@ module _ (s tb : List ℕ) where
     where
       go : (o : Outcome TokenTree) → refused_with r ≡ then o (λ t. done (length (tree_records t))) → o ≡ refused_with r
       go (refused_with q) f = let x : q ≡ r = cc in ap refused_with x
-      go (done t) f = refusal_done r (length (tree_records t)) f
+      go (done t) f = cc
 
   -- a call that goes on with the tree refuses as `finished` does
   pub refuses : {A : Type 0} (g : TokenTree → Outcome A) (r : Refusal) → refused_with r ≡ then (read_finished s tb) (λ t. done (length (tree_records t))) → refused_with r ≡ then (read_finished s tb) g
@@ -305,6 +275,4 @@ module _ {s tb : List ℕ} {n : ℕ} {t : TokenTree} (f : Finished s tb n t) whe
 
   pub record_is : (i : ℕ) (d : Record) → i < n → get_or (tree_records t) i d ≡ record_of tb i
   record_is i d h =
-      ap (λ (l : List Record). get_or l i d) (record_split i h)
-      ∙ ap (λ (m : ℕ). get_or (records_of tb 0 i ++ (record_of tb i ∷ records_of tb (i + 1) (n - (i + 1)))) m d) (sym (records_length tb 0 i))
-      ∙ get_or-append_seam (records_of tb 0 i) (record_of tb i) (records_of tb (i + 1) (n - (i + 1))) d
+      ap (λ (l : List Record). get_or l i d) (record_split i h) ∙ get_or_at (records_of tb 0 i) (record_of tb i) (records_of tb (i + 1) (n - (i + 1))) d i (records_length tb 0 i)

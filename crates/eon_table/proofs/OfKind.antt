@@ -1,5 +1,5 @@
 -- What `Sheet::is` answers, as a test of the definitions.
-use Rattle.std.proofs.Common.{◌≡◌, ℕ, ◌↔◌, Bool, true, false, eqb, IsTrue, refl, sym}
+use Rattle.std.proofs.Common.{◌≡◌, ℕ, Bool, true, false, eqb, ◌↔◌, IsTrue, sym, refl}
 use Rattle.eon_laws.proofs.Facts.{eq_of, eqb_same}
 
 pub is_eqb : (b : Bool) (w k : ℕ) → (IsTrue b ↔ (w ≡ k)) → b ≡ eqb w k

@@ -1,12 +1,5 @@
 -- Parts of a text, and the text of a record.
-use mathlib.Core.Path.{◌≡◌, sym, ap}
-use mathlib.Core.Bool.{Bool, false, cond}
-use mathlib.Core.List.{List, [], ◌∷◌}
-use Prim.Native.Nat.{ℕ, ◌-◌, ◌≤◌}
-use native.Mathlib.Omega.{arith}
-use lib.ListN.{length, drop, length-drop}
-use lib.Seq.{length-take-le}
-use borrow.Author.Tests.{ne_eqb}
+use Rattle.std.proofs.Common.{◌≡◌, ℕ, ◌-◌, ◌≤◌, Bool, false, cond, List, [], ◌∷◌, length, drop, sym, ap, arith, length-drop, length-take-le, ne_eqb}
 use Rattle.eon_spec.specs.Base.{elem}
 use Rattle.eon_spec.specs.RecordKind.{LIST, MAP}
 use Rattle.eon_spec.specs.Records.{Record}

@@ -1,11 +1,5 @@
-use Rattle.std.specs.Prelude.{Option, None, Some}
 -- Each record's text lies in its span, and its span in the text.
-use mathlib.Core.Path.{sym, subst}
-use mathlib.Core.List.{List, [], ◌∷◌, ◌++◌}
-use Prim.Native.Nat.{ℕ, zero, suc, ◌+◌, ◌≤◌, ◌<◌}
-use native.Mathlib.Omega.{arith}
-use native.Mathlib.Nat.{add-zero}
-use lib.ListN.{length}
+use Rattle.std.proofs.Common.{ℕ, zero, suc, ◌+◌, ◌<◌, ◌≤◌, List, [], ◌∷◌, ◌++◌, length, Some, None, Option, sym, subst, add-zero, arith}
 use Rattle.eon_spec.specs.Tree.{Span, Slice, TokenTree, TokenValue, TokenTrees, KeyValues, tree, identifier, number, quoted_string, list_of, map_of, variant_of, no_trees, ◌∷ᵗ◌, no_pairs, pair}
 use Rattle.eon_spec.specs.Records.{Record, record_at, comments, suffix, tree_records, value_records, trees_records, pairs_records}
 use Rattle.eon_laws.proofs.Places.{Fits}

@@ -1,23 +1,13 @@
 -- The records of a table in their order.
-use mathlib.Core.Path.{◌≡◌, refl, sym, ap, ◌∙◌}
-use mathlib.Core.List.{List, [], ◌∷◌, ◌++◌}
-use Prim.Native.Nat.{ℕ, zero, suc, ◌+◌, ◌-◌, ◌*◌, ◌<◌}
-use native.Mathlib.Nat.{add-zero, zero-add, add-suc, suc-add}
-use native.Mathlib.Numerals.{add-one}
-use native.Mathlib.Decide.{dec_lt}
-use native.Mathlib.Omega.{arith}
-use lib.ListN.{length, get_or, take, drop, take-append-drop, get_or-eq_default}
-use lib.Seq.{get_or-drop, drop-drop}
+use Rattle.std.proofs.Common.{⊎_elim, ◌≡◌, ℕ, zero, suc, ◌+◌, ◌-◌, ◌*◌, ◌<◌, List, [], ◌∷◌, ◌++◌, length, get_or, take, drop, sym, refl, ap, ◌∙◌, add-zero, add-suc, suc-add, zero-add, add-one, arith, take-append-drop, get_or-drop, drop-drop}
+use Rattle.std.proofs.lemmas.List.{get_or_past}
+use Rattle.std.proofs.lemmas.Bool.{cases_lt}
 use Rattle.eon_spec.specs.Records.{Record, words}
 use Rattle.eon_table.specs.Words.{word, record_of, records_of}
 
 -- a word that is not 0 stands in the table
 pub word_in : (tb : List ℕ) (i k : ℕ) → 0 < word tb i k → i < length tb
-word_in tb i k h = go (dec_lt i (length tb))
-  where
-    go : Dec (i < length tb) → i < length tb
-    go (yes d) = d
-    go (no d) = let z : word tb i k ≡ 0 = get_or-eq_default tb 0 (omega arith) in absurd (omega arith)
+word_in tb i k h = ⊎_elim (λ l. l) (λ l. let z : word tb i k ≡ 0 = get_or_past tb _ 0 (omega arith) in absurd (omega arith)) (cases_lt i (length tb))
 
 module _ (tb : List ℕ) where
   pub records_length : (i n : ℕ) → length (records_of tb i n) ≡ n

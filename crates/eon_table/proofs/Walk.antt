@@ -1,21 +1,12 @@
-use Rattle.std.specs.Prelude.{Option, None, Some}
 -- The steps of a walk over a table that holds a tree.
-use mathlib.Core.Path.{◌≡◌, refl, sym, ap, ◌∙◌, subst}
-use mathlib.Core.Bool.{Bool, true, false, ◌&&◌, not}
-use mathlib.Core.List.{List, [], ◌∷◌}
-use Prim.Native.Nat.{ℕ, ◌+◌, ◌≤◌, ◌<◌}
-use native.Mathlib.Omega.{arith}
-use native.Mathlib.Nat.{add-zero}
-use native.Mathlib.Decide.{dec_le}
-use lib.ListN.{length}
-use lib.Dec.{ltb, eqb}
-use borrow.Author.Tests.{lt-ltb, le-ltb, eq-eqb, ne_eqb, ltb-true}
+use Rattle.std.proofs.Common.{inl, inr, ◌⊎◌, ◌≡◌, ℕ, ◌+◌, ◌<◌, ◌≤◌, Bool, true, false, not, ◌&&◌, eqb, ltb, List, [], ◌∷◌, length, Some, None, Option, sym, refl, ap, ◌∙◌, subst, add-zero, arith, ltb-true, le-ltb, lt-ltb, eq-eqb, ne_eqb}
+use Rattle.std.proofs.lemmas.Bool.{cases_lt, cases_order, and_right}
 use Rattle.eon_spec.specs.RecordKind.{PREFIX_COMMENT, CLOSING_COMMENT}
 use Rattle.eon_spec.specs.Tree.{Span, Slice, TokenTree, TokenValue, TokenTrees, KeyValues, tree, identifier, number, quoted_string, list_of, map_of, variant_of, no_trees, ◌∷ᵗ◌, no_pairs, pair}
 use Rattle.eon_spec.specs.Layout.{prefix_of, suffix_of}
 use Rattle.eon_laws.proofs.Facts.{clash, and_left}
 use Rattle.eon_laws.proofs.Records.{suffix_size, tree_size, value_size, trees_size, pairs_size}
-use Rattle.eon_table.specs.Words.{word, has_suffix, more_at, AfterPrefix, Within, Texts}
+use Rattle.eon_table.specs.Words.{word, has_suffix, more_at, AfterPrefix}
 use Rattle.eon_table.specs.TreeAt.{kind_of, value_of, CommentsAt, SuffixAt, HeadAt, TreeAt, ValueAt, TreesAt, PairsAt, InsideAt, PairedAt, PairAt}
 use Rattle.eon_table.proofs.Table.{word_in}
 
@@ -93,31 +84,23 @@ module _ (s tb : List ℕ) where
 
 -- ---- comments
 
-pub comments_texts : (s tb : List ℕ) (k i : ℕ) (cs : List Slice) → CommentsAt s tb k i cs → Texts s tb i (i + length cs)
-comments_texts s tb k i [] h j a b = absurd (omega arith)
-comments_texts s tb k i (c ∷ cs) h j a b = go (dec_le j i) (comments_texts s tb k (i + 1) cs h.1 j)
-  where
-    go : Dec (j ≤ i) → (i + 1 ≤ j → j < i + 1 + length cs → Within s tb j) → Within s tb j
-    go (yes d) f = subst (Within s tb) (omega arith) h.0.in_text
-    go (no d) f = f (omega arith) (omega arith)
-
 -- a record of a kind among comments
 pub comments_kind : (s tb : List ℕ) (k i : ℕ) (cs : List Slice) → CommentsAt s tb k i cs → (j : ℕ) → i ≤ j → j < i + length cs → word tb j 0 ≡ k
 comments_kind s tb k i [] h j a b = absurd (omega arith)
-comments_kind s tb k i (c ∷ cs) h j a b = go (dec_le j i) (comments_kind s tb k (i + 1) cs h.1 j)
+comments_kind s tb k i (c ∷ cs) h j a b = go (cases_lt i j) (comments_kind s tb k (i + 1) cs h.1 j)
   where
-    go : Dec (j ≤ i) → (i + 1 ≤ j → j < i + 1 + length cs → word tb j 0 ≡ k) → word tb j 0 ≡ k
-    go (yes d) f = subst (λ (m : ℕ). word tb m 0 ≡ k) (omega arith) h.0.is_kind
-    go (no d) f = f (omega arith) (omega arith)
+    go : (i < j) ⊎ (j ≤ i) → (i + 1 ≤ j → j < i + 1 + length cs → word tb j 0 ≡ k) → word tb j 0 ≡ k
+    go (inl d) f = f (omega arith) (omega arith)
+    go (inr d) f = subst (λ (m : ℕ). word tb m 0 ≡ k) (omega arith) h.0.is_kind
 
 -- where the prefix comments end
 pub prefix_ends : (s tb : List ℕ) (i r : ℕ) (p : List Slice) → CommentsAt s tb PREFIX_COMMENT i p → (word tb (i + length p) 0 ≡ PREFIX_COMMENT → ⊥) → AfterPrefix tb i r → r ≡ i + length p
-prefix_ends s tb i r p h e a = go (dec_le (i + length p) r) (dec_le r (i + length p))
+prefix_ends s tb i r p h e a = go (cases_order r (i + length p))
   where
-    go : Dec (i + length p ≤ r) → Dec (r ≤ i + length p) → r ≡ i + length p
-    go (yes x) (yes y) = omega arith
-    go (yes x) (no y) = absurd (e (a.prefix (i + length p) (omega arith) (omega arith)))
-    go (no x) d = absurd (a.ends (comments_kind s tb PREFIX_COMMENT i p h r a.from (omega arith)))
+    go : (r ≡ i + length p) ⊎ ((r < i + length p) ⊎ (i + length p < r)) → r ≡ i + length p
+    go (inl x) = x
+    go (inr (inl x)) = absurd (a.ends (comments_kind s tb PREFIX_COMMENT i p h r a.from (omega arith)))
+    go (inr (inr x)) = absurd (e (a.prefix (i + length p) (omega arith) (omega arith)))
 
 -- ---- a tree's parts
 
@@ -153,15 +136,16 @@ module _ (s tb : List ℕ) where
     suffix_zero j None h e = refl
     suffix_zero j (Some c) h e = clash h.0 e
 
-    pub next_suffix : (t : TokenTree) → TreeAt s tb end i t → AfterPrefix tb i r → has_suffix tb end (r + word tb r 4) ≡ true → r + word tb r 4 + 1 ≡ i + tree_size t
-    next_suffix t h a e =
-        let q : suffix_size (suffix_of t) ≡ 1 = suffix_one (r + word tb r 4) (suffix_of t) (tree_suffix t h a) e in
+    -- w is the size that the code reads
+    pub next_suffix : (t : TokenTree) → TreeAt s tb end i t → AfterPrefix tb i r → (w : ℕ) → w ≡ word tb r 4 → has_suffix tb end (r + w) ≡ true → r + w + 1 ≡ i + tree_size t
+    next_suffix t h a w p e =
+        let q : suffix_size (suffix_of t) ≡ 1 = suffix_one (r + word tb r 4) (suffix_of t) (tree_suffix t h a) (rw p at e) in
         let z : r + word tb r 4 + suffix_size (suffix_of t) ≡ i + tree_size t = tree_ends t h a in
         omega arith
 
-    pub next_bare : (t : TokenTree) → TreeAt s tb end i t → AfterPrefix tb i r → has_suffix tb end (r + word tb r 4) ≡ false → r + word tb r 4 ≡ i + tree_size t
-    next_bare t h a e =
-        let q : suffix_size (suffix_of t) ≡ 0 = suffix_zero (r + word tb r 4) (suffix_of t) (tree_suffix t h a) e in
+    pub next_bare : (t : TokenTree) → TreeAt s tb end i t → AfterPrefix tb i r → (w : ℕ) → w ≡ word tb r 4 → has_suffix tb end (r + w) ≡ false → r + w ≡ i + tree_size t
+    next_bare t h a w p e =
+        let q : suffix_size (suffix_of t) ≡ 0 = suffix_zero (r + word tb r 4) (suffix_of t) (tree_suffix t h a) (rw p at e) in
         let z : r + word tb r 4 + suffix_size (suffix_of t) ≡ i + tree_size t = tree_ends t h a in
         omega arith
 
@@ -207,11 +191,7 @@ more_off tb end j h = ap (λ (x : Bool). x && not (eqb (word tb j 0) CLOSING_COM
 
 more_ends : (tb : List ℕ) (end j : ℕ) → word tb j 0 ≡ CLOSING_COMMENT → more_at tb end j ≡ false
 unfolding more_at
-more_ends tb end j h = ap (λ (x : Bool). ltb j end && not x) (eq-eqb (word tb j 0) CLOSING_COMMENT h) ∙ off (ltb j end)
-  where
-    off : (b : Bool) → (b && false) ≡ false
-    off true = refl
-    off false = refl
+more_ends tb end j h = and_right (ltb j end) (not (eqb (word tb j 0) CLOSING_COMMENT)) (ap not (eq-eqb (word tb j 0) CLOSING_COMMENT h))
 
 pub more_in : (tb : List ℕ) (end j : ℕ) → more_at tb end j ≡ true → j < end
 unfolding more_at

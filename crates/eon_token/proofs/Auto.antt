@@ -1,24 +1,16 @@
-use Rattle.std.specs.Prelude.{Option, None, Some}
 -- The automaton is the rules': each state is named by a text that leads there, and one computed test says that the derivatives of the states
 -- are the states where the table goes.
-use mathlib.Core.Path.{◌≡◌, refl, sym, ap, ap₂, ◌∙◌}
-use mathlib.Core.Logic.{◌⊎◌, inl, inr}
-use mathlib.Core.Bool.{Bool, true, false, ◌&&◌, and-false, cond}
-use mathlib.Core.List.{List, [], ◌∷◌}
-use Prim.Native.Nat.{ℕ, zero, suc, ◌≤◌, ◌<◌}
+use Rattle.std.proofs.Common.{◌≡◌, ℕ, zero, suc, ◌<◌, ◌≤◌, Bool, true, false, cond, ◌&&◌, T, eqb, ltb, ◌⊎◌, List, [], ◌∷◌, get_or, Some, None, Option, sym, refl, ap, ◌∙◌, ap₂, inl, inr, arith, ltb→lt, ne_eqb}
+use Rattle.std.proofs.lemmas.Bool.{lt-leb, cases_lt}
+use mathlib.Core.Bool.{and-false}
 use Prim.Native.Char.{code}
 use Prim.Native.String.{String, [] as []ˢ, ◌∷◌ as ◌∷ˢ◌}
-use native.Mathlib.Decide.{dec_lt}
-use native.Mathlib.Omega.{arith}
-use borrow.Author.Tests.{lt-leb, ne_eqb}
-use lib.Dec.{T, ltb, eqb, ltb→lt}
-use lib.ListN.{get_or}
 use Rattle.eon_spec.specs.Base.{within}
 use Rattle.eon_spec.specs.Utf8.{Character, code_point}
 use Rattle.eon_spec.specs.Regex.{Item, ◌to◌, only, in_item, in_class, Regex, never, empty, one_of, none_of, ◌then◌, ◌or◌, many, nullable, and_then, or_else, deriv}
 use Rattle.eon_spec.specs.Token.{kind_number, Rule, ◌is◌, rules}
 use Rattle.eon_token.specs.Machine.{classes, class, states, goes, accepts}
-use Rattle.eon_token.proofs.Tests.{below, below_at, tabled, tabled_at, and_left, and_right, at_least, class_small, middle, past, eq?, eq?-eq}
+use Rattle.eon_token.proofs.Tests.{below, below_at, tabled, tabled_at, and_left, and_right, class_small, middle, past, eq?, eq?-eq}
 
 -- a character of each class
 unfoldable pub reps : List ℕ
@@ -112,24 +104,24 @@ by_code (only a ∷ k) c = rw (by_code k c)
 
 high_reps : (x : ℕ) → 128 ≤ x → Outside (rep (class x))
 unfolding rep reps
-high_reps x h = go (dec_lt x 192)
+high_reps x h = go (cases_lt x 192)
   where
-    go : Dec (x < 192) → Outside (rep (class x))
-    go (yes l) = rw (middle x h l) (inr (omega arith))
-    go (no n) = rw (past x (at_least n)) (inl refl)
+    go : (x < 192) ⊎ (192 ≤ x) → Outside (rep (class x))
+    go (inl l) = rw (middle x h l) (inr (omega arith))
+    go (inr n) = rw (past x n) (inl refl)
 
 unfoldable known : List Item → Bool
 known k = low k && below 128 (λ x. eq? (in_class k (x ∷ [])) (in_class k (rep (class x) ∷ [])))
 
 known_class : (k : List Item) (c : Character) → T (known k) → in_class k c ≡ in_class k (rep (class (code_point c)) ∷ [])
 unfolding known
-known_class k c t = by_code k c ∙ at (dec_lt (code_point c) 128)
+known_class k c t = by_code k c ∙ at (cases_lt (code_point c) 128)
   where
-    at : Dec (code_point c < 128) → in_class k (code_point c ∷ []) ≡ in_class k (rep (class (code_point c)) ∷ [])
-    at (yes h) = eq?-eq (in_class k (code_point c ∷ [])) (in_class k (rep (class (code_point c)) ∷ [])) (below_at 128 (λ i. eq? (in_class k (i ∷ [])) (in_class k (rep (class i) ∷ []))) (and_right (low k) _ t) (code_point c) h)
-    at (no n) =
+    at : (code_point c < 128) ⊎ (128 ≤ code_point c) → in_class k (code_point c ∷ []) ≡ in_class k (rep (class (code_point c)) ∷ [])
+    at (inl h) = eq?-eq (in_class k (code_point c ∷ [])) (in_class k (rep (class (code_point c)) ∷ [])) (below_at 128 (λ i. eq? (in_class k (i ∷ [])) (in_class k (rep (class i) ∷ []))) (and_right (low k) _ t) (code_point c) h)
+    at (inr n) =
         let l : T (low k) = and_left (low k) _ t in
-        let h : 128 ≤ code_point c = at_least n in
+        let h : 128 ≤ code_point c = n in
         out k (code_point c) l (inr h) ∙ sym (out k (rep (class (code_point c))) l (high_reps (code_point c) h))
 
 known_r : Regex → Bool

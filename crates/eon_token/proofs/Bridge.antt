@@ -1,23 +1,14 @@
-use Rattle.std.specs.Prelude.{Option, None, Some}
 -- The automaton reads the bytes of characters as it reads the characters: what a character past ASCII does, its first byte does, and the bytes
 -- after that change nothing more.
-use mathlib.Core.Path.{◌≡◌, refl, sym, ap, subst, ◌∙◌}
-use mathlib.Core.Logic.{◌⊎◌, inl, inr}
-use mathlib.Core.Bool.{Bool, true, false, ◌&&◌}
-use mathlib.Core.List.{List, [], ◌∷◌, ◌++◌, map}
-use Prim.Native.Nat.{ℕ, zero, suc, ◌+◌, ◌≤◌, ◌<◌}
-use native.Mathlib.Nat.{suc-add, zero-add}
-use native.Mathlib.Decide.{dec_lt}
-use native.Mathlib.Omega.{arith}
-use lib.Dec.{T, ltb, leb, eqb, ltb→lt, leb→le, eqb→eq}
-use lib.ListN.{length, take, length-append}
-use Rattle.eon_laws.proofs.Facts.{le_of}
+use Rattle.std.proofs.Common.{◌≡◌, ℕ, zero, suc, ◌+◌, ◌<◌, ◌≤◌, Bool, true, false, ◌&&◌, T, eqb, ltb, leb, ◌⊎◌, List, [], ◌∷◌, ◌++◌, map, length, take, Some, None, Option, sym, refl, ap, ◌∙◌, subst, inl, inr, suc-add, zero-add, arith, eqb→eq, ltb→lt, leb→le, length-append}
+use Rattle.std.proofs.lemmas.Bool.{cases_lt}
+use Rattle.eon_laws.proofs.Facts.{within_bounds}
 use Rattle.eon_laws.proofs.Facts as facts
 use Rattle.eon_spec.specs.Utf8.{Range, ◌to◌, Row, ◌then◌, in_range, row_of, table37, fits, len_if, char_len, Character, code_point, joined}
 use Rattle.eon_laws.proofs.Chars.{IsChar, AllChars}
 use Rattle.eon_laws.proofs.Spaces.{char_wide}
 use Rattle.eon_token.specs.Machine.{Found, miss, hit, class, states, goes, accepts}
-use Rattle.eon_token.proofs.Tests.{below, below_at, and_left, and_right, at_least, class_small, middle, past, goes_small}
+use Rattle.eon_token.proofs.Tests.{below, below_at, and_left, and_right, class_small, middle, past, goes_small}
 use Rattle.eon_token.proofs.Longest.{acc_f, later, by_table}
 
 -- bytes 128 to 191
@@ -47,22 +38,16 @@ table_good = tt
 abbrev Fit : ℕ → List Range → Type 0
 Fit b m = ((m ≡ []) × (b < 128)) ⊎ ((0 < length m) × (192 ≤ b) × T (tails m))
 
-range_low : (lo hi b : ℕ) → in_range (lo to hi) b ≡ true → lo ≤ b
-range_low lo hi b e = le_of lo b (facts.and_left (leb lo b) (leb b hi) e)
-
-range_high : (lo hi b : ℕ) → in_range (lo to hi) b ≡ true → b ≤ hi
-range_high lo hi b e = le_of b hi (facts.and_right (leb lo b) (leb b hi) e)
-
 fit_row : (lo hi : ℕ) (g : List Range) (rows : List Row) (b : ℕ) → T (good (((lo to hi) then g) ∷ rows)) → in_range (lo to hi) b ≡ true → Fit b g
 unfolding good
 fit_row lo hi [] rows b t p =
     let h = ltb→lt hi 128 (and_left (ltb hi 128) (good rows) t) in
-    let l = range_high lo hi b p in
+    let l = within_bounds lo hi b p in
     inl (refl, omega arith)
 fit_row lo hi (r ∷ rs) rows b t p =
     let u = and_left (leb 192 lo && tails (r ∷ rs)) (good rows) t in
     let h = leb→le 192 lo (and_left (leb 192 lo) (tails (r ∷ rs)) u) in
-    let l = range_low lo hi b p in
+    let l = within_bounds lo hi b p in
     inr (omega arith, omega arith, and_right (leb 192 lo) (tails (r ∷ rs)) u)
 
 good_rest : (lo hi : ℕ) (g : List Range) (rows : List Row) → T (good (((lo to hi) then g) ∷ rows)) → T (good rows)
@@ -71,7 +56,7 @@ good_rest lo hi [] rows t = and_right (ltb hi 128) (good rows) t
 good_rest lo hi (r ∷ rs) rows t = and_right (leb 192 lo && tails (r ∷ rs)) (good rows) t
 
 fit : (rows : List Row) (b : ℕ) (m : List Range) → T (good rows) → row_of rows b ≡ Some m → Fit b m
-fit [] b m t e = absurd (let y : ◌≡◌ {A = ℕ} 0 1 = cc in omega arith)
+fit [] b m t e = cc
 fit (((lo to hi) then g) ∷ rows) b m t e = go (in_range (lo to hi) b) refl e (fit rows b m (good_rest lo hi g rows t))
   where
     go : (x : Bool) → in_range (lo to hi) b ≡ x → row_of (((lo to hi) then g) ∷ rows) b ≡ Some m → (row_of rows b ≡ Some m → Fit b m) → Fit b m
@@ -91,8 +76,7 @@ conts ((lo to hi) ∷ m) (x ∷ s) t f l =
     let u = and_right (leb 128 lo) (ltb hi 192 && tails m) t in
     let a = leb→le 128 lo (and_left (leb 128 lo) (ltb hi 192 && tails m) t) in
     let z = ltb→lt hi 192 (and_left (ltb hi 192) (tails m) u) in
-    let lx = range_low lo hi x p in
-    let hx = range_high lo hi x p in
+    let b = within_bounds lo hi x p in
     (omega arith, omega arith, conts m s (and_right (ltb hi 192) (tails m) u) (facts.and_right (in_range (lo to hi) x) (fits m s) f) (omega arith))
 
 pub shape : (c : Character) → IsChar c → Shape c
@@ -128,11 +112,11 @@ goes_stays : (n : ℕ) → n < 31 → goes (goes n 6) 6 ≡ goes n 6
 goes_stays n h = eqb→eq (goes (goes n 6) 6) (goes n 6) (and_right (eqb (goes n 5) (goes n 6)) (eqb (goes (goes n 6) 6) (goes n 6)) (below_at 31 (λ m. eqb (goes m 5) (goes m 6) && eqb (goes (goes m 6) 6) (goes m 6)) all_wide n h))
 
 goes_wide : (n b : ℕ) → n < 31 → 128 ≤ b → goes n (class b) ≡ goes n 6
-goes_wide n b h l = at (dec_lt b 192)
+goes_wide n b h l = at (cases_lt b 192)
   where
-    at : Dec (b < 192) → goes n (class b) ≡ goes n 6
-    at (yes p) = ap (goes n) (middle b l p) ∙ goes_five n h
-    at (no p) = ap (goes n) (past b (at_least p))
+    at : (b < 192) ⊎ (192 ≤ b) → goes n (class b) ≡ goes n 6
+    at (inl p) = ap (goes n) (middle b l p) ∙ goes_five n h
+    at (inr p) = ap (goes n) (past b p)
 
 -- so many bytes further on
 abbrev pub shift : ℕ → Found → Found

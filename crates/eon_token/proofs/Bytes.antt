@@ -1,13 +1,13 @@
 -- The tests of bytes that the scanner makes are those of the classes: each by one computed test of all bytes. And where a walk over the
 -- bytes that pass a test ends.
-use Rattle.std.proofs.Common.{◌≡◌, refl, sym, ap, ◌∙◌, ℕ, zero, suc, ◌+◌, ◌-◌, ◌≤◌, ◌<◌, Bool, true, false, cond, not, ◌||◌, ◌&&◌, ◌⊎◌, inl, inr, T, leb, ltb, nat_eq, List, length, get_or, drop, arith, lit<, lit≤}
-use native.Mathlib.Decide.{dec_lt}
+use Rattle.std.proofs.Common.{◌≡◌, ℕ, zero, suc, ◌+◌, ◌-◌, ◌<◌, ◌≤◌, Bool, true, false, cond, not, ◌&&◌, ◌||◌, T, ltb, leb, ◌⊎◌, List, length, get_or, drop, nat_eq, sym, refl, ap, ◌∙◌, inl, inr, arith, lit<, lit≤}
+use Rattle.std.proofs.lemmas.Bool.{cases_lt}
 use Rattle.std.specs.Char.{is_ascii_lowercase, is_ascii_uppercase, is_ascii_digit}
-use Rattle.eon_laws.proofs.Facts.{le_of, and_left, and_right}
+use Rattle.eon_laws.proofs.Facts.{within_bounds}
 use Rattle.eon_token.specs.declared.token_kind.Quote.{Quote}
 use Rattle.eon_token.specs.declared.token_kind.Quote.TheVariants.{Double, Single}
 use Rattle.eon_token.specs.Machine.{class, classes, in_classes, span_of, byte_of, class_of, KeepsWhile}
-use Rattle.eon_token.proofs.Tests.{below, below_at, at_least, eq?, eq?-eq, only_double, only_single, only, only?, outside?, alone_outside}
+use Rattle.eon_token.proofs.Tests.{below, below_at, eq?, eq?-eq, only_double, only_single, only, only?, outside?, alone_outside}
 use Rattle.eon_token.proofs.Steps.{span_yes, span_no, span_end}
 
 -- two tests that answer alike at each byte
@@ -55,23 +55,20 @@ single_is b = not_not (nat_eq b 39) (in_classes 0 17 b) (alone_outside 39 0 17 t
 
 -- what begins an identifier, and else a number
 pub letter_class : (b : ℕ) → in_classes 2 2 b ≡ true → class b ≡ 2
-letter_class b e = omega (arith, le_of 2 (class b) (and_left (leb 2 (class b)) (leb (class b) 2) e), le_of (class b) 2 (and_right (leb 2 (class b)) (leb (class b) 2) e))
+letter_class b e = omega (arith, within_bounds 2 2 (class b) e)
 
 pub number_class : (b : ℕ) → in_classes 2 2 b ≡ false → in_classes 2 4 b ≡ true → (class b ≡ 3) ⊎ (class b ≡ 4)
-number_class b n e = at (dec_lt (class b) 4)
+number_class b n e = at (cases_lt (class b) 4)
   where
-    low : 2 ≤ class b
-    low = le_of 2 (class b) (and_left (leb 2 (class b)) (leb (class b) 4) e)
-
-    high : class b ≤ 4
-    high = le_of (class b) 4 (and_right (leb 2 (class b)) (leb (class b) 4) e)
+    bounds : (2 ≤ class b) × (class b ≤ 4)
+    bounds = within_bounds 2 4 (class b) e
 
     not_two : class b ≡ 2 → ⊥
     not_two z = let x : true ≡ false = sym (ap (λ k. leb 2 k && leb k 2) z) ∙ n in cc
 
-    at : Dec (class b < 4) → (class b ≡ 3) ⊎ (class b ≡ 4)
-    at (yes l) = inl (omega (arith, low, not_two))
-    at (no l) = inr (omega (arith, high, at_least l))
+    at : (class b < 4) ⊎ (4 ≤ class b) → (class b ≡ 3) ⊎ (class b ≡ 4)
+    at (inl l) = inl (omega (arith, bounds, not_two))
+    at (inr l) = inr (omega (arith, bounds, l))
 
 -- a slash and its class
 pub slash_class : (b : ℕ) → b ≡ 47 → class b ≡ 7
@@ -94,19 +91,18 @@ only_quote Single b e = only_single b e
 
 module _ (passes : ℕ → Bool → Type 0) (s : List ℕ) where
   -- the bytes that pass are those of the classes lo to hi
-  pub span_keeps : (lo hi : ℕ) → ((b : ℕ) → passes b true → in_classes lo hi b ≡ true) → ((b : ℕ) → passes b false → in_classes lo hi b ≡ false)
-      → (from end : ℕ) → KeepsWhile passes s from end → end ≡ from + span_of lo hi (drop from s)
-  span_keeps lo hi in_ out from end k = go (end - from) from (omega (arith, k.behind)) (λ i h l. k.inside i h l)
+  pub span_keeps : (lo hi : ℕ) → ((b : ℕ) (x : Bool) → passes b x → in_classes lo hi b ≡ x) → (from end : ℕ) → KeepsWhile passes s from end → end ≡ from + span_of lo hi (drop from s)
+  span_keeps lo hi as_classes from end k = go (end - from) from (omega (arith, k.behind)) (λ i h l. k.inside i h l)
     where
       none : (i : ℕ) → i ≡ end → span_of lo hi (drop i s) ≡ 0
-      none i e = at (dec_lt end (length s))
+      none i e = at (cases_lt end (length s))
         where
-          at : Dec (end < length s) → span_of lo hi (drop i s) ≡ 0
-          at (yes l) = span_no s i lo hi (omega arith) (ap (λ j. in_classes lo hi (get_or s j 0)) e ∙ out (get_or s end 0) (k.stops l))
-          at (no l) = span_end s i lo hi (omega (arith, at_least l))
+          at : (end < length s) ⊎ (length s ≤ end) → span_of lo hi (drop i s) ≡ 0
+          at (inl l) = span_no s i lo hi (omega arith) (ap (λ j. in_classes lo hi (get_or s j 0)) e ∙ as_classes (get_or s end 0) false (k.stops l))
+          at (inr l) = span_end s i lo hi (omega (arith, l))
 
       go : (n i : ℕ) → i + n ≡ end → ((j : ℕ) → i ≤ j → j < end → passes (get_or s j 0) true) → end ≡ i + span_of lo hi (drop i s)
       go zero i e f = omega (arith, none i (omega arith))
       go (suc n) i e f =
-          let on : span_of lo hi (drop i s) ≡ suc (span_of lo hi (drop (i + 1) s)) = span_yes s i lo hi (omega (arith, k.within)) (in_ (get_or s i 0) (f i (omega arith) (omega arith))) in
+          let on : span_of lo hi (drop i s) ≡ suc (span_of lo hi (drop (i + 1) s)) = span_yes s i lo hi (omega (arith, k.within)) (as_classes (get_or s i 0) true (f i (omega arith) (omega arith))) in
           omega (arith, go n (i + 1) (omega arith) (λ j h l. f j (omega arith) l))

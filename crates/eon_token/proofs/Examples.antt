@@ -1,7 +1,5 @@
 -- Some answers, computed by the definition.
-use mathlib.Core.Path.{◌≡◌, refl}
-use mathlib.Core.List.{List, [], ◌∷◌}
-use Prim.Native.Nat.{ℕ}
+use Rattle.std.proofs.Common.{◌≡◌, ℕ, List, [], ◌∷◌, refl}
 use Rattle.eon_spec.specs.Utf8.{utf8, encode, encode_char, chars_from, chars, char_len}
 use Rattle.eon_spec.specs.Regex.{deriv, longest}
 use Rattle.eon_spec.specs.Token.{tokens_from, token_from, longest_rule, rules}

@@ -1,5 +1,5 @@
 -- The kinds of tokens, and of the text's end, by their numbers.
-use Rattle.std.proofs.Common.{◌≡◌, ℕ, ◌≤◌, ◌<◌, Option, None, Some, ap, sym, ◌∙◌, refl, arith, IsSome}
+use Rattle.std.proofs.Common.{◌≡◌, ℕ, ◌<◌, ◌≤◌, IsSome, Some, None, Option, sym, refl, ap, ◌∙◌, arith}
 use Rattle.eon_spec.specs.declared.token_kind.TokenKind.{TokenKind}
 use Rattle.eon_spec.specs.declared.token_kind.TokenKind.TheVariants.{Invalid, Comment, OpenList, CloseList, OpenBrace, CloseBrace, OpenParen, CloseParen, Colon, Comma, Identifier, Number, DoubleQuotedString, SingleQuotedString, MultilineBasicString, MultilineLiteralString}
 use Rattle.eon_spec.specs.Token.{kind_number}
@@ -60,7 +60,7 @@ pub code_none : (o : Option TokenKind) → o ≡ None → code_of o ≡ 16
 code_none o e = ap code_of e
 
 pub not_both : (o : Option TokenKind) → o ≡ None → IsSome o → ⊥
-not_both None e h = let y : ◌≡◌ {A = ℕ} 0 1 = cc in omega arith
+not_both None e h = cc
 not_both (Some k) e h = cc
 
 pub code_le : (o : Option TokenKind) → code_of o ≤ 16
@@ -68,11 +68,11 @@ code_le None = omega arith
 code_le (Some k) = omega (arith, kind_small k)
 
 pub code_small : (o : Option TokenKind) → IsSome o → code_of o < 16
-code_small None h = absurd (let y : ◌≡◌ {A = ℕ} 0 1 = cc in omega arith)
+code_small None h = cc
 code_small (Some k) h = kind_small k
 
 pub code_in : (o : Option TokenKind) → IsSome o → kind_number (kind_in o) ≡ code_of o
-code_in None h = absurd (let y : ◌≡◌ {A = ℕ} 0 1 = cc in omega arith)
+code_in None h = cc
 code_in (Some k) h = refl
 
 pub there : (o : Option TokenKind) → code_of o < 16 → IsSome o
@@ -82,9 +82,3 @@ there (Some k) h = refl
 pub is_end : (o : Option TokenKind) → code_of o ≡ 16 → o ≡ None
 is_end None h = refl
 is_end (Some k) h = absurd (omega (arith, kind_small k))
-
-pub code_same : (a b : Option TokenKind) → code_of a ≡ code_of b → a ≡ b
-code_same None None e = refl
-code_same None (Some k) e = absurd (omega (arith, kind_small k))
-code_same (Some j) None e = absurd (omega (arith, kind_small j))
-code_same (Some j) (Some k) e = ap Some (kind_same j k e)

@@ -1,13 +1,5 @@
-use Rattle.std.specs.Prelude.{None, Some, is_some, IsSome}
 -- For who calls the token call again and again: where a token stands, that its end is a boundary, and the token list from there on.
-use mathlib.Core.Path.{◌≡◌, refl, sym, ap, ap₂, subst, ◌∙◌}
-use mathlib.Core.Bool.{Bool, true, false, ◌||◌}
-use mathlib.Core.List.{List, [], ◌∷◌}
-use Prim.Native.Nat.{ℕ, suc, ◌+◌, ◌-◌, ◌≤◌, ◌<◌, pred}
-use native.Mathlib.Nat.{add_assoc}
-use native.Mathlib.Omega.{arith}
-use lib.ListN.{length, take, drop}
-use lib.Seq.{drop-drop}
+use Rattle.std.proofs.Common.{◌≡◌, ℕ, suc, pred, ◌+◌, ◌-◌, ◌<◌, ◌≤◌, Bool, true, false, ◌||◌, List, [], ◌∷◌, length, take, drop, is_some, IsSome, Some, None, sym, refl, ap, ◌∙◌, subst, ap₂, add_assoc, arith, drop-drop}
 use Rattle.eon_spec.specs.Base.{elem}
 use Rattle.eon_spec.specs.Utf8.{Character, chars, joined, is_utf8, Boundary}
 use Rattle.eon_spec.specs.declared.token_kind.TokenKind.{TokenKind}

@@ -1,19 +1,13 @@
-use Rattle.std.specs.Prelude.{Option, None, Some}
 -- The longest match by derivatives: what a character leaves of the rules, and that the automaton finds the same.
-use mathlib.Core.Path.{◌≡◌, refl, sym, ap, ap₂, ◌∙◌}
-use mathlib.Core.Bool.{Bool, true, false}
-use mathlib.Core.List.{List, [], ◌∷◌, map}
-use Prim.Native.Nat.{ℕ, zero, suc, ◌≤◌, ◌<◌}
-use native.Mathlib.Decide.{dec_lt}
-use native.Mathlib.Omega.{arith}
-use borrow.Author.Tests.{lt-ltb, le-ltb}
+use Rattle.std.proofs.Common.{◌≡◌, inr, inl, ◌⊎◌, ℕ, zero, suc, ◌<◌, ◌≤◌, Bool, true, false, List, [], ◌∷◌, map, Some, None, Option, sym, refl, ap, ◌∙◌, ap₂, arith, le-ltb, lt-ltb}
+use Rattle.std.proofs.lemmas.Bool.{cases_lt}
 use Rattle.eon_spec.specs.Utf8.{Character, code_point}
 use Rattle.eon_spec.specs.Regex.{Regex, never, empty, one_of, none_of, ◌then◌, ◌or◌, many, is_never, nullable, deriv, longest}
 use Rattle.eon_spec.specs.declared.token_kind.TokenKind.{TokenKind}
 use Rattle.eon_spec.specs.declared.token_kind.TokenKind.TheVariants.{Invalid}
 use Rattle.eon_spec.specs.Token.{kind_number, Rule, ◌is◌, rules, better, longest_rule}
 use Rattle.eon_token.specs.Machine.{Found, miss, hit, class, goes, states, accepts}
-use Rattle.eon_token.proofs.Tests.{class_small, goes_small, at_least}
+use Rattle.eon_token.proofs.Tests.{class_small, goes_small}
 use Rattle.eon_token.proofs.Auto.{deriv_rules, words, state_of, or_mine, accept, known_number, accepted, steps}
 use Rattle.eon_token.proofs.Steps.{first_some}
 
@@ -44,21 +38,21 @@ never_longest : (r : Regex) (cs : List Character) → is_never r ≡ true → lo
 unfolding longest deriv
 never_longest never [] e = refl
 never_longest never (c ∷ cs) e = refl
-never_longest empty cs e = absurd (let y : ◌≡◌ {A = ℕ} 0 1 = cc in omega arith)
-never_longest (one_of k) cs e = absurd (let y : ◌≡◌ {A = ℕ} 0 1 = cc in omega arith)
-never_longest (none_of k) cs e = absurd (let y : ◌≡◌ {A = ℕ} 0 1 = cc in omega arith)
-never_longest (a then b) cs e = absurd (let y : ◌≡◌ {A = ℕ} 0 1 = cc in omega arith)
-never_longest (a or b) cs e = absurd (let y : ◌≡◌ {A = ℕ} 0 1 = cc in omega arith)
-never_longest (many a) cs e = absurd (let y : ◌≡◌ {A = ℕ} 0 1 = cc in omega arith)
+never_longest empty cs e = cc
+never_longest (one_of k) cs e = cc
+never_longest (none_of k) cs e = cc
+never_longest (a then b) cs e = cc
+never_longest (a or b) cs e = cc
+never_longest (many a) cs e = cc
 
 never_null : (r : Regex) → is_never r ≡ true → nullable r ≡ false
 never_null never e = refl
-never_null empty e = absurd (let y : ◌≡◌ {A = ℕ} 0 1 = cc in omega arith)
+never_null empty e = cc
 never_null (one_of k) e = refl
 never_null (none_of k) e = refl
-never_null (a then b) e = absurd (let y : ◌≡◌ {A = ℕ} 0 1 = cc in omega arith)
-never_null (a or b) e = absurd (let y : ◌≡◌ {A = ℕ} 0 1 = cc in omega arith)
-never_null (many a) e = absurd (let y : ◌≡◌ {A = ℕ} 0 1 = cc in omega arith)
+never_null (a then b) e = cc
+never_null (a or b) e = cc
+never_null (many a) e = cc
 
 longest_step : (r : Regex) (c : Character) (cs : List Character) → longest r (c ∷ cs) ≡ longer (longest (deriv r c) cs) (nullable (deriv r c))
 unfolding longest
@@ -71,12 +65,12 @@ longest_step r c cs = go (is_never (deriv r c)) (longest (deriv r c) cs) (nullab
     go false (suc n) y p q t = rw (p, longest, q)
 
 pub is_some : (k : TokenKind) (m j n : ℕ) → found_of k m ≡ hit j (suc n) → (m ≡ suc n) × (kind_number k ≡ j)
-is_some k zero j n e = absurd (let y : ◌≡◌ {A = ℕ} 0 1 = cc in omega arith)
+is_some k zero j n e = cc
 is_some k (suc m) j n e = ((cc), (cc))
 
 pub is_none : (k : TokenKind) (m : ℕ) → found_of k m ≡ miss → m ≡ 0
 is_none k zero e = refl
-is_none k (suc m) e = absurd (let y : ◌≡◌ {A = ℕ} 0 1 = cc in omega arith)
+is_none k (suc m) e = cc
 
 better_yes : (k : TokenKind) (x : TokenKind × ℕ) (n : ℕ) → x.1 < n → better k x n ≡ (k, n)
 better_yes k x n h = rw (lt-ltb x.1 n h, better)
@@ -105,14 +99,14 @@ module _ (k l d : TokenKind) (L : ℕ) where
 
   one_rule : (D x : ℕ) (b : Bool) (A : Option ℕ) → found_of l L ≡ up (first_some (found_of d D) (none_yet A)) → found (better k (l, L) (longer x b)) ≡ rest D x b A
   one_rule (suc m) zero b A e = both_old (suc m) zero b A (omega (arith, short b, (is_some l L (kind_number d) (suc m) e).0)) (omega arith) e
-  one_rule (suc m) (suc n) b A e = go (dec_lt (suc m) (suc n))
+  one_rule (suc m) (suc n) b A e = go (cases_lt (suc m) (suc n))
     where
       p : L ≡ suc (suc m)
       p = (is_some l L (kind_number d) (suc m) e).0
 
-      go : Dec (suc m < suc n) → found (better k (l, L) (suc (suc n))) ≡ rest (suc m) (suc n) b A
-      go (yes h) = both_new (suc m) n b A (omega (arith, p)) h
-      go (no h) = both_old (suc m) (suc n) b A (omega (arith, p)) (at_least h) e
+      go : (suc m < suc n) ⊎ (suc n ≤ suc m) → found (better k (l, L) (suc (suc n))) ≡ rest (suc m) (suc n) b A
+      go (inl h) = both_new (suc m) n b A (omega (arith, p)) h
+      go (inr h) = both_old (suc m) (suc n) b A (omega (arith, p)) h e
   one_rule zero zero b (Some a) e = both_old zero zero b (Some a) (omega (arith, short b, (is_some l L a zero e).0)) (omega arith) e
   one_rule zero (suc n) b (Some a) e = both_new zero n b (Some a) (omega (arith, (is_some l L a zero e).0)) (omega arith)
   one_rule zero (suc n) b None e = both_new zero n b None (omega (arith, is_none l L e)) (omega arith)

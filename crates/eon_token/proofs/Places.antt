@@ -1,13 +1,6 @@
-use Rattle.std.specs.Prelude.{IsSome}
 -- For who walks a text by its cursor: the next token of a place, and the definition's tokens from there on. Assumes nothing.
-use mathlib.Core.Path.{◌≡◌, refl, sym, ap, ap₂, ◌∙◌}
-use mathlib.Core.Bool.{Bool, true, false, ◌||◌}
-use mathlib.Core.List.{List, [], ◌∷◌}
-use Prim.Native.Nat.{ℕ, ◌≤◌, ◌<◌}
-use native.Mathlib.Omega.{arith}
-use lib.Dec.{eqb}
-use borrow.Author.Tests.{eqb-true, eqb-false}
-use Rattle.eon_spec.specs.Base.{elem}
+use Rattle.std.proofs.Common.{◌≡◌, ℕ, ◌<◌, ◌≤◌, Bool, true, false, eqb, List, [], ◌∷◌, IsSome, sym, refl, ap, ◌∙◌, arith, eqb-true}
+use Rattle.std.proofs.lemmas.Bool.{eqb-false}
 use Rattle.eon_spec.specs.Utf8.{is_utf8}
 use Rattle.eon_spec.specs.Token.{Token, kind_number}
 use Rattle.eon_spec.specs.Tree.{Span}
@@ -15,8 +8,6 @@ use Rattle.eon_spec.specs.Parse.{behind, skip, span_of}
 use Rattle.eon_token.specs.declared.cursor.Cursor.{Cursor}
 use Rattle.eon_token.specs.Placed.{placed_at, tokens_at, token_of, code_of}
 use Rattle.eon_token.specs.Place.{Spot, span, place_of, kind_at, next_span, line_feed, cursor_behind, Standing}
-use Rattle.std.specs.List.{list_any}
-use Rattle.eon_laws.proofs.Facts.{eqb_sym}
 use Rattle.eon_token.proofs.Text.{boundary_start}
 use Rattle.eon_token.proofs.Laws.{bounds, end_boundary, tokens_none, tokens_some}
 use Rattle.eon_token.proofs.KindCodes.{code_in, code_le, code_small, there, is_end}
@@ -92,9 +83,3 @@ module _ (s : List ℕ) (c : Cursor) (h : Standing s c) where
 
   pub peeks_gets : IsSome c.peeked.kind → Gets s (place_of c)
   peeks_gets k = gets s (place_of c) h.bound (omega (arith, peeks_kind, code_small c.peeked.kind k))
-
--- ---- a line feed between two places
-
-pub feeds : (b : ℕ) (l : List ℕ) → list_any (λ y. eqb y b) l ≡ elem b l
-feeds b [] = refl
-feeds b (y ∷ l) = ap₂ ◌||◌ (eqb_sym y b) (feeds b l)

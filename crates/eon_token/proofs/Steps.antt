@@ -1,18 +1,6 @@
-use Rattle.std.specs.Prelude.{Option, Some, None, is_some}
 -- What the loops need: one more byte of a span or of the automaton's run, and where single states go.
-use mathlib.Core.Path.{◌≡◌, refl, sym, ap, ap₂, subst, ◌∙◌}
-use mathlib.Core.Logic.{◌⊎◌, inl, inr}
-use mathlib.Core.Bool.{Bool, true, false, ◌&&◌, ◌||◌, cond}
-use mathlib.Core.List.{List, [], ◌∷◌}
-use Prim.Native.Nat.{ℕ, zero, suc, ◌+◌, ◌-◌, ◌≤◌, ◌<◌}
-use native.Mathlib.Nat.{le_of_suc-le-suc, not-suc-le-zero, add-zero}
-use native.Mathlib.Numerals.{add-one}
-use native.Mathlib.Decide.{dec_lt}
-use native.Mathlib.Omega.{arith}
-use borrow.Author.Tests.{ne_eqb}
-use lib.Dec.{T, leb, ltb, eqb, eqb→eq, ltb→lt}
-use lib.ListN.{length, get_or, drop, drop_of_length-le}
-use lib.Seq.{drop-cons}
+use Rattle.std.proofs.Common.{◌≡◌, ℕ, zero, suc, ◌+◌, ◌-◌, ◌<◌, ◌≤◌, Bool, true, false, cond, ◌&&◌, ◌||◌, T, eqb, ltb, leb, ◌⊎◌, List, [], ◌∷◌, length, get_or, drop, is_some, Some, None, Option, sym, refl, ap, ◌∙◌, subst, ap₂, inl, inr, le_of_suc-le-suc, not-suc-le-zero, add-zero, add-one, arith, eqb→eq, ltb→lt, drop_of_length-le, drop-cons, ne_eqb}
+use Rattle.std.proofs.lemmas.Bool.{cases_lt}
 use Rattle.eon_token.specs.Machine.{Found, miss, hit, class, classes, states, goes, accepts, upd, run, in_classes, one_byte_kind, span_of, class_of, one_s, inside_s, two_s, multi_s, plain_k, multi_k, finish, from_b}
 use Rattle.eon_spec.specs.declared.token_kind.TokenKind.{TokenKind}
 use Rattle.eon_spec.specs.Token.{kind_number}
@@ -20,7 +8,7 @@ use Rattle.eon_token.specs.Placed.{kind_of}
 use Rattle.eon_token.specs.declared.token_kind.Quote.{Quote}
 use Rattle.eon_token.specs.declared.token_kind.Quote.TheVariants.{Double, Single}
 use Rattle.eon_token.specs.declared.token_kind.PlacedToken.{PlacedToken}
-use Rattle.eon_token.proofs.Tests.{below, below_at, at_least, class_small, only_feed, only_double, only_backslash, and_left, and_right, or-false}
+use Rattle.eon_token.proofs.Tests.{below, below_at, class_small, only_feed, only_double, only_backslash, and_left, and_right, or-false}
 
 module _ (text : List ℕ) (i : ℕ) where
   cons : i < length text → drop i text ≡ get_or text i 0 ∷ drop (i + 1) text
@@ -315,11 +303,11 @@ module _ (text : List ℕ) (start : ℕ) where
 -- a quote at s, by what comes after it
 module _ {q : ℕ} (quote : IsQuote q) (text : List ℕ) (s : ℕ) (h : s < length text) (e : class (get_or text s 0) ≡ q) where
   pub q_in : (s + 1 < length text → class (get_or text (s + 1) 0) ≡ q → ⊥) → run 0 miss s (drop s text) ≡ run (inside_s q) miss (s + 1) (drop (s + 1) text)
-  q_in p = start_quote quote text s h e ∙ at (dec_lt (s + 1) (length text))
+  q_in p = start_quote quote text s h e ∙ at (cases_lt (s + 1) (length text))
     where
-      at : Dec (s + 1 < length text) → run (one_s q) miss (s + 1) (drop (s + 1) text) ≡ run (inside_s q) miss (s + 1) (drop (s + 1) text)
-      at (yes l) = one_on quote text (s + 1) l (p l)
-      at (no l) = one_end quote text (s + 1) (at_least l) ∙ sym (run_end text (s + 1) (inside_s q) miss (at_least l) ∙ ap (λ (a : ℕ). upd a miss (s + 1)) (quoted quote).in_quiet)
+      at : (s + 1 < length text) ⊎ (length text ≤ s + 1) → run (one_s q) miss (s + 1) (drop (s + 1) text) ≡ run (inside_s q) miss (s + 1) (drop (s + 1) text)
+      at (inl l) = one_on quote text (s + 1) l (p l)
+      at (inr l) = one_end quote text (s + 1) l ∙ sym (run_end text (s + 1) (inside_s q) miss l ∙ ap (λ (a : ℕ). upd a miss (s + 1)) (quoted quote).in_quiet)
 
   -- and t is the place behind two quotes
   module _ (l : s + 1 < length text) (e' : class (get_or text (s + 1) 0) ≡ q) (t : ℕ) (z : t ≡ s + 1 + 1) where
@@ -327,11 +315,11 @@ module _ {q : ℕ} (quote : IsQuote q) (text : List ℕ) (s : ℕ) (h : s < leng
     two = start_quote quote text s h e ∙ one_quote quote text (s + 1) l e' ∙ ap (λ (n : ℕ). run (two_s q) miss n (drop n text)) (sym z)
 
     pub q_two : (t < length text → class (get_or text t 0) ≡ q → ⊥) → run 0 miss s (drop s text) ≡ hit (plain_k q) t
-    q_two p = two ∙ at (dec_lt t (length text))
+    q_two p = two ∙ at (cases_lt t (length text))
       where
-        at : Dec (t < length text) → run (two_s q) miss t (drop t text) ≡ hit (plain_k q) t
-        at (yes m) = two_on quote text t m (p m)
-        at (no m) = two_end quote text t (at_least m)
+        at : (t < length text) ⊎ (length text ≤ t) → run (two_s q) miss t (drop t text) ≡ hit (plain_k q) t
+        at (inl m) = two_on quote text t m (p m)
+        at (inr m) = two_end quote text t m
 
     pub q_three : t < length text → class (get_or text t 0) ≡ q → (f : Found) → run (multi_s q 0) miss (t + 1) (drop (t + 1) text) ≡ f → run 0 miss s (drop s text) ≡ first_some f (hit (plain_k q) t)
     q_three m e'' f p = two ∙ two_quote quote text t m e'' ∙ ap (λ (x : Found). first_some x (hit (plain_k q) t)) p
@@ -390,13 +378,13 @@ module _ (text : List ℕ) (s : ℕ) (h : s < length text) where
 
     pub slash_one : (s + 1 < length text → class (get_or text (s + 1) 0) ≡ 7 → ⊥) → run 0 miss s (drop s text) ≡ miss
     unfolding goes states accepts other?
-    slash_one p = slash ∙ at (dec_lt (s + 1) (length text))
+    slash_one p = slash ∙ at (cases_lt (s + 1) (length text))
       where
-        at : Dec (s + 1 < length text) → run 4 miss (s + 1) (drop (s + 1) text) ≡ miss
-        at (yes l) =
+        at : (s + 1 < length text) ⊎ (length text ≤ s + 1) → run 4 miss (s + 1) (drop (s + 1) text) ≡ miss
+        at (inl l) =
             move text (s + 1) l 4 1 (class (get_or text (s + 1) 0)) miss refl (other_than 4 1 7 7 tt (class (get_or text (s + 1) 0)) (class_small (get_or text (s + 1) 0)) (p l) (p l)) refl
             ∙ dead miss (s + 1 + 1) (drop (s + 1 + 1) text)
-        at (no l) = run_end text (s + 1) 4 miss (at_least l)
+        at (inr l) = run_end text (s + 1) 4 miss l
 
     pub comments : s + 1 < length text → class (get_or text (s + 1) 0) ≡ 7 → run 0 miss s (drop s text) ≡ hit 1 (s + 1 + 1 + span_of 1 18 (drop (s + 1 + 1) text))
     unfolding goes states accepts stays?

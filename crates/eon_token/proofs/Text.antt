@@ -1,34 +1,22 @@
 -- A well-formed text from a boundary on.
-use mathlib.Core.Path.{◌≡◌, refl, sym, ap, ◌∙◌}
-use mathlib.Core.Bool.{true}
-use mathlib.Core.List.{List, [], ◌∷◌, ◌++◌, append_assoc}
-use Prim.Native.Nat.{ℕ, zero, suc, ◌+◌, ◌≤◌}
-use native.Mathlib.Nat.{zero-add, suc-add, add_assoc}
-use native.Mathlib.Omega.{arith}
-use lib.ListN.{length, take, drop, length-append}
-use lib.Seq.{take-append_seam, drop-append_seam, take-length}
-use Rattle.eon_laws.proofs.Facts.{eq_of}
-use Rattle.eon_spec.specs.Utf8.{Character, chars, joined, is_utf8, well_formed_len, well_formed_from, Boundary}
-use Rattle.eon_laws.proofs.Utf8.{chars_concat}
+use Rattle.std.proofs.Common.{◌≡◌, ℕ, zero, suc, ◌+◌, ◌≤◌, true, List, [], ◌∷◌, length, take, drop, sym, refl, ap, ◌∙◌, add_assoc, suc-add, zero-add, arith, length-append, take_at, drop_at, take_all}
+use Rattle.eon_spec.specs.Utf8.{Character, chars, joined, is_utf8, Boundary}
+use Rattle.eon_laws.proofs.Utf8.{joined_is}
+use Rattle.eon_laws.proofs.Words.{joined_split}
 use Rattle.eon_laws.proofs.Chars.{AllChars, chars_are, all_chars}
 
 -- the bytes of the first n characters
 abbrev pub bytes : ℕ → List Character → ℕ
 bytes n cs = length (joined (take n cs))
 
-split : (n : ℕ) (cs : List Character) → joined cs ≡ joined (take n cs) ++ joined (drop n cs)
-split zero cs = refl
-split (suc n) [] = refl
-split (suc n) (c ∷ cs) = ap (λ (t : List ℕ). c ++ t) (split n cs) ∙ sym (append_assoc c (joined (take n cs)) (joined (drop n cs)))
-
 pub prefix : (n : ℕ) (cs : List Character) → take (bytes n cs) (joined cs) ≡ joined (take n cs)
-prefix n cs = ap (take (bytes n cs)) (split n cs) ∙ take-append_seam (joined (take n cs)) (joined (drop n cs))
+prefix n cs = ap (take (bytes n cs)) (joined_split n cs) ∙ take_at (joined (take n cs)) (joined (drop n cs)) _ refl
 
 pub suffix : (n : ℕ) (cs : List Character) → drop (bytes n cs) (joined cs) ≡ joined (drop n cs)
-suffix n cs = ap (drop (bytes n cs)) (split n cs) ∙ drop-append_seam (joined (take n cs)) (joined (drop n cs))
+suffix n cs = ap (drop (bytes n cs)) (joined_split n cs) ∙ drop_at (joined (take n cs)) (joined (drop n cs)) _ refl
 
 pub bytes_le : (n : ℕ) (cs : List Character) → bytes n cs + length (joined (drop n cs)) ≡ length (joined cs)
-bytes_le n cs = sym (ap length (split n cs) ∙ length-append (joined (take n cs)) (joined (drop n cs)))
+bytes_le n cs = sym (ap length (joined_split n cs) ∙ length-append (joined (take n cs)) (joined (drop n cs)))
 
 bytes_none : (n : ℕ) → bytes n [] ≡ 0
 bytes_none zero = refl
@@ -49,14 +37,6 @@ all_drop (suc n) [] a = tt
 all_drop (suc n) (c ∷ cs) a = all_drop n cs a.1
 
 module _ (s : List ℕ) (u : is_utf8 s ≡ true) where
-  formed : well_formed_from 0 s ≡ length s
-  unfolding is_utf8 well_formed_len
-  formed = eq_of (well_formed_len s) (length s) u
-
-  pub whole : joined (chars s) ≡ s
-  unfolding chars
-  whole = chars_concat 0 s (omega arith) formed
-
   all : AllChars (chars s)
   unfolding chars
   all = chars_are 0 s
@@ -66,13 +46,13 @@ module _ (s : List ℕ) (u : is_utf8 s ≡ true) where
     all_from = all_drop j (chars s) all
 
     pub text_from : drop (bytes j (chars s)) s ≡ joined (drop j (chars s))
-    text_from = ap (drop (bytes j (chars s))) (sym whole) ∙ suffix j (chars s)
+    text_from = ap (drop (bytes j (chars s))) (sym (joined_is s u)) ∙ suffix j (chars s)
 
     pub chars_from_lem : chars (drop (bytes j (chars s)) s) ≡ drop j (chars s)
     chars_from_lem = ap chars text_from ∙ all_chars (drop j (chars s)) all_from
 
     pub text_le : bytes j (chars s) + length (joined (drop j (chars s))) ≡ length s
-    text_le = bytes_le j (chars s) ∙ ap length whole
+    text_le = bytes_le j (chars s) ∙ ap length (joined_is s u)
 
   pub boundary_le : (at : ℕ) → Boundary s at → at ≤ length s
   boundary_le at b = omega (arith, b.place, text_le b.count)
@@ -82,4 +62,4 @@ pub boundary_start : (s : List ℕ) → Boundary s 0
 boundary_start s = record { count = 0; place = refl }
 
 pub boundary_end : (s : List ℕ) → is_utf8 s ≡ true → Boundary s (length s)
-boundary_end s u = record { count = length (chars s); place = sym (ap (λ (cs : List Character). length (joined cs)) (take-length (chars s)) ∙ ap length (whole s u)) }
+boundary_end s u = record { count = length (chars s); place = sym (ap (λ (cs : List Character). length (joined cs)) (take_all _ (chars s) (omega arith)) ∙ ap length (joined_is s u)) }

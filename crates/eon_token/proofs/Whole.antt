@@ -1,16 +1,7 @@
-use Rattle.std.specs.Prelude.{Option, None, Some}
 -- The token of the bytes is the definition's first token of the characters.
-use mathlib.Core.Path.{◌≡◌, refl, sym, ap, ap₂, subst, ◌∙◌}
-use mathlib.Core.Bool.{Bool, true, false, not, ◌&&◌, ◌||◌, or_assoc, or-false, cond}
-use mathlib.Core.List.{List, [], ◌∷◌, ◌++◌}
-use Prim.Native.Nat.{ℕ, zero, suc, ◌+◌, ◌≤◌, ◌<◌, pred}
-use native.Mathlib.Nat.{add-zero}
-use native.Mathlib.Decide.{dec_lt}
-use native.Mathlib.Omega.{arith}
-use borrow.Author.Tests.{ne_eqb}
-use lib.Dec.{T, leb, eqb}
-use lib.ListN.{length, take, drop, length-append}
-use lib.Seq.{drop-drop}
+use Rattle.std.proofs.Common.{◌≡◌, inr, inl, ◌⊎◌, ℕ, zero, suc, pred, ◌+◌, ◌<◌, ◌≤◌, Bool, true, false, cond, not, ◌&&◌, ◌||◌, T, eqb, leb, List, [], ◌∷◌, ◌++◌, length, take, drop, Some, None, Option, sym, refl, ap, ◌∙◌, subst, ap₂, add-zero, arith, length-append, drop-drop, ne_eqb}
+use mathlib.Core.Bool.{or_assoc, or-false}
+use Rattle.std.proofs.lemmas.Bool.{cases_lt}
 use Rattle.eon_spec.specs.Base.{elem}
 use Rattle.eon_spec.specs.Utf8.{Character, code_point, chars, joined, is_utf8, Boundary}
 use Rattle.eon_spec.specs.declared.token_kind.TokenKind.{TokenKind}
@@ -23,7 +14,7 @@ use Rattle.eon_laws.proofs.Facts.{eq_of, eqb_sym}
 use Rattle.eon_token.specs.Machine.{Found, miss, hit, classes, class, goes, accepts, upd, run, span_of, finish, from_b}
 use Rattle.eon_token.specs.Placed.{placed_token, placed_at, tokens_at}
 use Rattle.eon_token.specs.declared.token_kind.PlacedToken.{PlacedToken}
-use Rattle.eon_token.proofs.Tests.{below, below_at, at_least, middle, past, eq?, eq?-eq}
+use Rattle.eon_token.proofs.Tests.{below, below_at, middle, past, eq?, eq?-eq}
 use Rattle.eon_token.proofs.KindCodes.{kind_of_lem, kind_same}
 use Rattle.eon_token.proofs.Steps.{first_some, run_best}
 use Rattle.eon_token.proofs.Longest.{found_of, later, acc_f, by_table, rules_right}
@@ -59,11 +50,11 @@ high_space x h = rw (ne_eqb x 32 (omega arith), ne_eqb x 9 (omega arith), ne_eqb
 
 high_blank : (x : ℕ) → 128 ≤ x → blank x ≡ false
 unfolding blank
-high_blank x h = at (dec_lt x 192)
+high_blank x h = at (cases_lt x 192)
   where
-    at : Dec (x < 192) → blank x ≡ false
-    at (yes l) = rw (middle x h l)
-    at (no n) = rw (past x (at_least n))
+    at : (x < 192) ⊎ (192 ≤ x) → blank x ≡ false
+    at (inl l) = rw (middle x h l)
+    at (inr n) = rw (past x n)
 
 low_space : (x : ℕ) → x < 128 → is_space (x ∷ []) ≡ blank x
 low_space x h = eq?-eq (is_space (x ∷ [])) (blank x) (below_at 128 (λ i. eq? (is_space (i ∷ [])) (blank i)) low_spaces x h)
@@ -115,7 +106,7 @@ skip_space at nl (c ∷ cs) (i, a) = go c (shape c i) (is_space c) refl (λ at n
         (ih (at + 1) (nl || eqb b 10)
         ∙ ap₂ (λ (n : ℕ) (t : Bool). tokens_from 0 n t (drop (leading cs) cs)) (omega arith)
         (or_assoc nl (eqb b 10) (elem 10 (joined (take (leading cs) cs))) ∙ ap (λ (t : Bool). nl || (t || elem 10 (joined (take (leading cs) cs)))) (eqb_sym b 10)))
-    go c (wide b w l p x) true e ih = absurd (let z = high_space (code_point (b ∷ w)) x in let y : ◌≡◌ {A = ℕ} 0 1 = cc in omega arith)
+    go c (wide b w l p x) true e ih = let z = high_space (code_point (b ∷ w)) x in cc
 
 -- an invalid token: the bytes 128 to 191 behind the first
 ascii_first : T (below 128 (λ b. not (leb 5 (class b) && leb (class b) 5)))

@@ -1,4 +1,4 @@
-use Rattle.std.proofs.Common.{◌∙◌, sym, ap, arith}
+use Rattle.std.proofs.Common.{sym, ap, ◌∙◌, arith}
 use Rattle.eon_token.specs.Machine.{closed}
 use Rattle.eon_token.proofs.Steps.{dq_close, dq_escape, dq_on, dq_end, esc_stop, esc_on, esc_end}
 use Rattle.eon_token.proofs.token_kind.close_double.Goals as goal

@@ -1,4 +1,4 @@
-use Rattle.std.proofs.Common.{◌∙◌, ◌+◌, drop, sym, ap, inl, inr, arith}
+use Rattle.std.proofs.Common.{◌+◌, drop, sym, ap, ◌∙◌, inl, inr, arith}
 use Rattle.eon_token.specs.Machine.{class, miss}
 use Rattle.eon_token.proofs.Bytes.{quote_class, only_quote}
 use Rattle.eon_token.proofs.Steps.{is_quote, multi_on, multi_end, multi_final}

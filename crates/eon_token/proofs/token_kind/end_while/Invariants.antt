@@ -1,4 +1,4 @@
-use Rattle.std.proofs.Common.{ℕ, ◌≤◌, ◌<◌, true, get_or}
+use Rattle.std.proofs.Common.{ℕ, ◌<◌, ◌≤◌, true, get_or}
 use Rattle.eon_token.proofs.token_kind.end_while.Given as goal
 
 -- All bytes from `from` up to i pass.

@@ -1,4 +1,4 @@
-use Rattle.std.proofs.Common.{◌<◌, ◌+◌, ◌∙◌, ap, sym, get_or, refl, arith, rules}
+use Rattle.std.proofs.Common.{◌+◌, ◌<◌, get_or, sym, refl, ap, ◌∙◌, arith, rules}
 use Rattle.eon_spec.specs.declared.token_kind.TokenKind.TheVariants.{Identifier, Number}
 use Rattle.eon_spec.specs.Token.{kind_number}
 use Rattle.eon_token.specs.Machine.{hit}
@@ -11,14 +11,14 @@ pub returns-then-is_letter : goal.returns-then-is_letter
 returns-then-is_letter c =
     let s = c.args.text.now in
     let start = c.args.start in
-    let e = span_keeps _ s 2 3 (λ b e. sym e) (λ b e. sym e) (start + 1) _ c.end_while-end.ensures.ends in
+    let e = span_keeps _ s 2 3 (λ b x e. sym e) (start + 1) _ c.end_while-end.ensures.ends in
     c.new.ensures ∙ found s start Identifier 10 c.end_while-end.result refl (ident s start c.requires (letter_class _ (sym c.if-is_letter.ensures)) ∙ ap (hit 10) (sym e))
 
 pub returns-then-is_number : goal.returns-then-is_number
 returns-then-is_number c =
     let s = c.args.text.now in
     let start = c.args.start in
-    let e = span_keeps _ s 2 4 (λ b e. sym e) (λ b e. sym e) (start + 1) _ c.end_while-end-then-is_number.ensures.ends in
+    let e = span_keeps _ s 2 4 (λ b x e. sym e) (start + 1) _ c.end_while-end-then-is_number.ensures.ends in
     c.new-then-is_number.ensures
     ∙ found s start Number 11 c.end_while-end-then-is_number.result refl (numbers s start c.requires (number_class _ (sym c.if-is_letter.ensures) (sym c.if-is_number.ensures)) ∙ ap (hit 11) (sym e))
 

@@ -11,12 +11,12 @@ pub returns-then-start-text : goal.returns-then-start-text
 returns-then-start-text c =
     let s = c.args.text.now in
     let at = c.args.at in
-    let start = span_keeps _ s 0 1 (λ b e. sym e) (λ b e. sym e) at _ c.end_while-start.ensures.ends in
+    let start = span_keeps _ s 0 1 (λ b x e. sym e) at _ c.end_while-start.ensures.ends in
     some_token s c.requires.formed at c.requires.boundary c.end_while-start.result start c.lexeme.result c.if-start-text.true c.lexeme.ensures
 
 pub returns : goal.returns
 returns c =
     let s = c.args.text.now in
     let at = c.args.at in
-    let start = span_keeps _ s 0 1 (λ b e. sym e) (λ b e. sym e) at _ c.end_while-start.ensures.ends in
+    let start = span_keeps _ s 0 1 (λ b x e. sym e) at _ c.end_while-start.ensures.ends in
     no_token s c.requires.formed at c.requires.boundary c.end_while-start.result start c.if-start-text.false

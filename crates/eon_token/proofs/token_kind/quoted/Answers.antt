@@ -1,4 +1,4 @@
-use Rattle.std.proofs.Common.{◌∙◌, ap, sym}
+use Rattle.std.proofs.Common.{sym, ap, ◌∙◌}
 use Rattle.eon_token.specs.Machine.{class, plain_k, class_of}
 use Rattle.eon_token.proofs.Bytes.{quote_class, only_quote}
 use Rattle.eon_token.proofs.Steps.{is_quote, q_in, found, ran}

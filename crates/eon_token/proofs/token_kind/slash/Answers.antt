@@ -1,4 +1,4 @@
-use Rattle.std.proofs.Common.{◌≡◌, ◌+◌, ◌∙◌, true, false, not, nat_eq, sym, ap, refl, rules}
+use Rattle.std.proofs.Common.{◌≡◌, ◌+◌, not, nat_eq, sym, refl, ap, ◌∙◌, rules}
 use Rattle.eon_spec.specs.declared.token_kind.TokenKind.TheVariants.{Comment}
 use Rattle.eon_token.specs.Machine.{hit}
 use Rattle.eon_token.proofs.Bytes.{feed_is, slash_class, only_slash, span_keeps}
@@ -15,6 +15,6 @@ pub returns : goal.returns
 returns c =
     let s = c.args.text.now in
     let start = c.args.start in
-    let e = span_keeps _ s 1 18 (λ b e. let x : true ≡ not (nat_eq b 10) = search rules in feed_is b ∙ sym x) (λ b e. let x : false ≡ not (nat_eq b 10) = search rules in feed_is b ∙ sym x) (start + 1 + 1) _ c.end_while-end.ensures.ends in
+    let e = span_keeps _ s 1 18 (λ b x e. let z : x ≡ not (nat_eq b 10) = search rules in feed_is b ∙ sym z) (start + 1 + 1) _ c.end_while-end.ensures.ends in
     let next = c.if-not-stands.ensures in
     c.new.ensures ∙ found s start Comment 1 c.end_while-end.result refl (comments s start c.requires.within (slash_class _ c.requires.slash) next.0 (slash_class _ next.1) ∙ ap (hit 1) (sym e))

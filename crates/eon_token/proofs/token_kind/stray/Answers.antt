@@ -1,5 +1,4 @@
-use Rattle.std.proofs.Common.{◌+◌, ◌∙◌, Some, List, ℕ, sym, ap}
-use Rattle.std.proofs.Math.Seq.{drop-drop}
+use Rattle.std.proofs.Common.{ℕ, ◌+◌, List, Some, sym, ap, ◌∙◌, drop-drop}
 use Rattle.eon_spec.specs.declared.token_kind.TokenKind.TheVariants.{Invalid}
 use Rattle.eon_token.specs.Machine.{span_of}
 use Rattle.eon_token.proofs.Bytes.{span_keeps}
@@ -10,4 +9,4 @@ pub returns : goal.returns
 returns c =
     let s = c.args.text.now in
     let start = c.args.start in
-    c.new.ensures ∙ made (Some Invalid) start (span_keeps _ s 5 5 (λ b e. sym e) (λ b e. sym e) (start + 1) _ c.end_while-end.ensures.ends ∙ ap (λ (l : List ℕ). start + 1 + span_of 5 5 l) (sym (drop-drop 1 start s)))
+    c.new.ensures ∙ made (Some Invalid) start (span_keeps _ s 5 5 (λ b x e. sym e) (start + 1) _ c.end_while-end.ensures.ends ∙ ap (λ (l : List ℕ). start + 1 + span_of 5 5 l) (sym (drop-drop 1 start s)))

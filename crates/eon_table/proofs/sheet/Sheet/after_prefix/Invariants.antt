@@ -1,5 +1,5 @@
 -- The records passed are prefix comments.
-use Rattle.std.proofs.Common.{◌≡◌, ℕ, ◌≤◌, ◌<◌}
+use Rattle.std.proofs.Common.{◌≡◌, ℕ, ◌<◌, ◌≤◌}
 use Rattle.eon_table.specs.Words.{word}
 use Rattle.eon_table.proofs.sheet.Sheet.after_prefix.Given as goal
 
