@@ -173,10 +173,7 @@ impl Stop {
 pub fn next_is(cursor: Cursor, kind: TokenKind) -> bool
     ensures { result ≡ eqb (code_of cursor.peeked.kind) (kind_number kind) }
 {
-    match cursor.peek().kind {
-        Some(next) => u32::from(next) == u32::from(kind),
-        None => false,
-    }
+    cursor.peek().kind == Some(kind)
 }
 
 // Refused at a token.

@@ -5,7 +5,7 @@ ghost use Rattle.std.specs.Prelude.{List, [], ◌∷◌, ◌++◌, ℕ, ◌≤�
 ghost use Rattle.std.specs.Option.{ForSome};
 ghost use Rattle.eon_spec.specs.Layout.{text_of, settings_of, add_indent};
 
-use eon_spec::{FormatOptions, Setting};
+use eon_spec::FormatOptions;
 
 pub trait Sink {
     // `puts s b t`: the bytes b were put, which made t of s.
@@ -87,26 +87,28 @@ impl Sink for Writer<'_> {
 
 // ---- settings
 
-// Most settings have one byte, which costs less than a copy.
-fn put_setting<S: Sink>(setting: &Setting, sink: &mut S)
-    ensures { S.puts sink.old (text_of setting.now) sink.new }
+// The text of a setting. Most have one byte, which costs less than a copy.
+fn put_text<S: Sink>(text: &[u8], sink: &mut S)
+    ensures { S.puts sink.old text.now sink.new }
 {
-    match setting.text() {
+    match text {
         [byte] => sink.put(*byte),
-        text => sink.put_all(text),
+        _ => sink.put_all(text),
     }
 }
 
 pub fn newline<S: Sink>(options: &FormatOptions, sink: &mut S)
     ensures { S.puts sink.old (text_of options.now.newline) sink.new }
 {
-    put_setting(&options.newline, sink);
+    put_text(options.newline.text(), sink);
 }
 
+// So many indentations. Their text is taken once: taken in each turn it cost half as much again on a text that is nested deep.
 pub fn add_indent<S: Sink>(options: &FormatOptions, n: usize, sink: &mut S)
     ensures { S.puts sink.old (add_indent (settings_of options.now) n) sink.new }
 {
+    let text = options.indentation.text();
     for _ in 0..n {
-        put_setting(&options.indentation, sink);
+        put_text(text, sink);
     }
 }

@@ -8,6 +8,6 @@ pub loop-preserved : goal.loop-preserved
 loop-preserved g c = let o = settings_of c.args.options.now in
     let n = c.loop.counter in
     subst
-    (λ (b : List ℕ). g.S.Sink.puts c.args.sink.now b c.put_setting.new.sink)
+    (λ (b : List ℕ). g.S.Sink.puts c.args.sink.now b c.put_text.new.sink)
     (indent_more o n)
-    (g.met.S.Sink.append c.args.sink.now c.loop.sink c.put_setting.new.sink (add_indent o n) (text_of c.args.options.now.indentation) c.loop.invariant c.put_setting.ensures)
+    (g.met.S.Sink.append c.args.sink.now c.loop.sink c.put_text.new.sink (add_indent o n) (text_of c.args.options.now.indentation) c.loop.invariant (subst (λ (b : List ℕ). g.S.Sink.puts c.loop.sink b c.put_text.new.sink) c.text-text.ensures c.put_text.ensures))
