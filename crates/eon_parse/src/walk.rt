@@ -78,9 +78,8 @@ impl Walk {
         ensures { result ≡ entered text.now self (next_span text.now (place self)) }
     {
         Walk {
-            cursor: self.cursor.next(text),
             count: self.count + 1,
-            same: self.same,
+            ..self.skip(text)
         }
     }
 

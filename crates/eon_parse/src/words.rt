@@ -54,7 +54,7 @@ impl Record {
 fn holds(table: &[u32], i: usize, word: u32) -> bool
     ensures { result ≡ holds table.now i word }
 {
-    i < table.len() && table[i] == word
+    table.get(i) == Some(&word)
 }
 
 fn put(table: &mut [u32], i: usize, word: u32)

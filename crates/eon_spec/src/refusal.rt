@@ -1,5 +1,7 @@
 // Why and where a call refuses. docs/REFUSALS.md says when, and at which place.
 ghost use Rattle.std.specs.Prelude.{◌≡◌};
+ghost use Rattle.std.specs.Option.{option_map_or};
+ghost use Rattle.eon_spec.specs.Token.{kind_number};
 ghost use Rattle.eon_spec.specs.Refused.{number_of, expected_of, found_of};
 
 use crate::token_kind::TokenKind;
@@ -82,24 +84,24 @@ impl Reason {
         }
     }
 
-    // The number of the token kind that was expected; 0, as in the papers and C's words, if none is named.
-    pub fn expected(self) -> u32
-        ensures { result ≡ expected_of self }
+    // The token kind that was expected, if one is named. The papers and C tell its number, and 0 if there is none.
+    pub fn expected(self) -> Option<TokenKind>
+        ensures { option_map_or kind_number result 0 ≡ expected_of self }
     {
         match self {
-            Reason::Mismatch { expected, found: _ } => u32::from(expected),
-            Reason::CutOff { expected } => u32::from(expected),
-            _ => 0,
+            Reason::Mismatch { expected, found: _ } => Some(expected),
+            Reason::CutOff { expected } => Some(expected),
+            _ => None,
         }
     }
 
-    // The number of the token kind that was found; 0, as above, if none is named.
-    pub fn found(self) -> u32
-        ensures { result ≡ found_of self }
+    // The token kind that was found, if one is named.
+    pub fn found(self) -> Option<TokenKind>
+        ensures { option_map_or kind_number result 0 ≡ found_of self }
     {
         match self {
-            Reason::Mismatch { expected: _, found } => u32::from(found),
-            _ => 0,
+            Reason::Mismatch { expected: _, found } => Some(found),
+            _ => None,
         }
     }
 }

@@ -38,11 +38,11 @@ fn all_letters_or_digits(text: &[u8]) -> bool
 fn is_letter(c: u8) -> bool
     ensures { result ≡ is_letter c }
 {
-    matches!(c, b'a'..=b'z' | b'A'..=b'Z' | b'_')
+    c.is_ascii_alphabetic() || c == b'_'
 }
 
 fn is_letter_or_digit(c: u8) -> bool
     ensures { result ≡ is_letter_or_digit c }
 {
-    is_letter(c) || matches!(c, b'0'..=b'9')
+    c.is_ascii_alphanumeric() || c == b'_'
 }

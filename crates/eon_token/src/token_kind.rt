@@ -233,6 +233,7 @@ fn close_triple(text: &[u8], from: usize, quote: Quote) -> Option<usize>
     ensures { run (multi_s (class_of quote) 0) Found.miss from (drop from text.now) ≡ closed (multi_k (class_of quote)) result }
 {
     let mark = quote.byte();
+    // The quotes in a row are counted, so that each byte is looked at once; a window of three looks at a quote up to three times.
     let mut marks: u8 = 0;
     for i in from..text.len() {
         if text[i] != mark {
@@ -251,7 +252,7 @@ fn close_triple(text: &[u8], from: usize, quote: Quote) -> Option<usize>
 fn stands(text: &[u8], i: usize, b: u8) -> bool
     ensures { MatchBool result ((i < length text.now) × (get_or text.now i 0 ≡ b)) (i < length text.now → get_or text.now i 0 ≡ b → ⊥) }
 {
-    i < text.len() && text[i] == b
+    text.get(i) == Some(&b)
 }
 
 // The end of the bytes from `from` on of which `inside` holds. The `for` goes over places, since the end is one: in a slice of the rest they
@@ -273,7 +274,7 @@ fn end_while<F: Fn(u8) -> bool>(text: &[u8], from: usize, inside: F) -> usize
 fn is_blank(b: u8) -> bool
     ensures { result ≡ in_classes 0 1 b }
 {
-    b == b' ' || matches!(b, b'\t' | b'\n' | b'\x0C' | b'\r')
+    matches!(b, b' ' | b'\t' | b'\n' | b'\x0C' | b'\r')
 }
 
 // A byte that an identifier begins with.
@@ -281,7 +282,7 @@ fn is_blank(b: u8) -> bool
 fn is_letter(b: u8) -> bool
     ensures { result ≡ in_classes 2 2 b }
 {
-    b.is_ascii_lowercase() || b.is_ascii_uppercase() || b == b'_'
+    b.is_ascii_alphabetic() || b == b'_'
 }
 
 // A byte of an identifier. The most frequent are told by two tests.
@@ -311,5 +312,5 @@ fn is_number(b: u8) -> bool
 fn is_further(b: u8) -> bool
     ensures { result ≡ in_classes 5 5 b }
 {
-    0x80 <= b && b < 0xC0
+    matches!(b, 0x80..=0xBF)
 }
