@@ -40,8 +40,8 @@ pub fn is_key(sheet: Sheet, i: usize) -> bool
     sheet.is(i, RecordKind::Identifier) || sheet.is(i, RecordKind::String)
 }
 
-// The paths that the sheet's tree lists, in their order in the room, if it is a list of paths. As in `read_path`, how far a turn goes is said
-// by the table, so neither loop is a `for`, and what is read is counted, since it is kept in an array: there is no heap.
+// The paths that the sheet's tree lists, in their order in the room, if it is a list of paths. As in `read_path`, how far a turn goes is
+// said by the table, so neither loop is a `for`, and what is read is counted, since it is kept in an array: there is no heap.
 pub fn read_paths<'a>(list: Sheet, room: &'a mut [Keys; PATHS_MAX]) -> Option<&'a [Keys]>
     requires { (end : ℕ) × SomeTree list.text.now list.table.now end 0 }
     ensures { IsPaths list.entry.text.now list.entry.table.now result }

@@ -67,8 +67,8 @@ impl<'a> Live<'a> {
     }
 
     // Behind the key of record k, whose value is record w: the paths that end are answered, and those that go on are handed back, if one
-    // does. Their numbers stand in a lent list, since there is no heap. One loop: two chains, of those that end and of those that go on, would
-    // compare each key twice.
+    // does. Their numbers stand in a lent list, since there is no heap. One loop: two chains, of those that end and of those that go on,
+    // would compare each key twice.
     fn match_key(
         self,
         event: Sheet,

@@ -1,4 +1,5 @@
-// Comments, and the end of a value.
+// Comments, and the end of a value. `Ready` is asked here as in readers.rt. Text, tables and walk stay apart: of a struct that holds the
+// table that is stored to, each call would have to borrow it anew.
 ghost use Rattle.std.specs.Prelude.{◌≡◌, ◌≤◌, ◌+◌, false, eqb, IsSome, [], ◌∷◌};
 ghost use Rattle.eon_spec.specs.RecordKind.{word_of};
 ghost use Rattle.eon_spec.specs.Records.{leaf};

@@ -42,7 +42,8 @@ pub fn read_once(text: &[u8], table: &mut [u32]) -> Result<usize, Refusal>
     once_checked(Text::of(text)?, table)
 }
 
-// The first walk finds out how the text is read, and whether there is room.
+// The first walk finds out how the text is read, and whether there is room. An empty table is one that agrees with nothing and takes
+// nothing, so that one cycle of readers counts, compares and stores.
 fn read_checked(text: Text, table: &mut [u32]) -> Result<usize, Refusal>
     ensures { after (outcome_of result) table.new ≡ read_call text.entry.str.now table.old }
 {

@@ -61,8 +61,8 @@ pub fn list(text: &[u8], old: &[u32], out: &mut [u32], w: Walk, depth: usize) ->
     Ok(comments(text, old, out, d, RecordKind::ClosingComment))
 }
 
-// The inside of a map (parse_map_contents): keys and values. As `list` but for the reader of an item: that is of the same cycle, so it can be no
-// argument of one function for both, whose contract would have to say of a closure what the cycle is still to show.
+// The inside of a map (parse_map_contents): keys and values. As `list` but for the reader of an item: that is of the same cycle, so it can
+// be no argument of one function for both, whose contract would have to say of a closure what the cycle is still to show.
 #[inline(always)]
 #[cycle(reading)]
 pub fn map(text: &[u8], old: &[u32], out: &mut [u32], w: Walk, depth: usize) -> Result<Walk, Stop>

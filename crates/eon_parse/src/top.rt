@@ -1,4 +1,5 @@
-// A whole text: the inside of a map and, if that fails, of a list. One value is no list.
+// A whole text: the inside of a map and, if that fails, of a list. One value is no list. `Starts` is `Ready` at the text's start: a
+// relation of the text and the walk, and no invariant, as is said in readers.rt.
 ghost use Rattle.std.specs.Prelude.{◌≡◌, ◌+◌, true, length, ◌≤◌};
 ghost use Rattle.eon_token.specs.Place.{span};
 ghost use Rattle.eon_parse.specs.Walk.{one, two, inside, below};

@@ -21,7 +21,7 @@ pub struct Walk {
     pub same: bool,
 }
 
-// A record whose end is still to come: its number and its start, and where a variant's name ends.
+// A record whose end is still to come: its number and its start, and where a variant's name ends, which is asked of a variant alone.
 #[derive(Clone, Copy)]
 pub struct Begun {
     pub kind: RecordKind,
@@ -37,7 +37,8 @@ pub struct Stop {
     pub consumed: usize,
 }
 
-// The walk behind a value, and where the value ends without its suffix comment.
+// The walk behind a value, and where the value ends without its suffix comment. A comma may replace that comment, so until one is ruled out
+// no more is kept of it than the two ends.
 #[derive(Clone, Copy)]
 pub struct Past {
     pub walk: Walk,

@@ -81,8 +81,8 @@ pub struct Part {
 // The most bytes that a setting may have.
 pub const SETTING_MAX: usize = 16;
 
-// A setting's text is the first `len` of its bytes, in fixed memory: there is no heap. Callers may give any length, so that one over the limit
-// is refused by layout and not by the type.
+// A setting's text is the first `len` of its bytes, in fixed memory: there is no heap. Callers may give any length, so that one over the
+// limit is refused by layout and not by the type.
 #[derive(Clone, Copy)]
 pub struct Setting {
     pub bytes: [u8; SETTING_MAX],

@@ -1,5 +1,5 @@
-// The public calls. Each takes any bytes, tables and settings; each contract is an equation with a definition of eon_spec, but that a lookup
-// may name any of several values that a path reaches (`IsLookup`).
+// The public calls. Each takes any bytes, tables and settings; each contract is an equation with a definition of eon_spec, but that a
+// lookup may name any of several values that a path reaches (`IsLookup`).
 #![tactic(auto)]
 
 ghost use Rattle.std.specs.Prelude.{◌≡◌};

@@ -27,8 +27,8 @@ pub struct Sheet<'a> {
 impl<'a> Sheet<'a> {
     // ---- a record
 
-    // Word k of record i, and 0 past the end. C's words are u32; they are answered as places and numbers of records, so each of the functions
-    // here says that it is below 2 ^ 32.
+    // Word k of record i, and 0 past the end. C's words are u32; they are answered as places and numbers of records, so each of the
+    // functions here says that it is below 2 ^ 32.
     fn word(self, i: usize, k: usize) -> usize
         requires { k < RECORD_WORDS }
         ensures value { result ≡ word self.entry.table.now i k }
@@ -43,6 +43,7 @@ impl<'a> Sheet<'a> {
         }
     }
 
+    // A word of a lent table may be any number, so its kind is asked for, and is no `RecordKind`.
     pub fn is(self, i: usize, kind: RecordKind) -> bool
         ensures { IsTrue result ↔ (word self.entry.table.now i 0 ≡ word_of kind) }
     {
@@ -108,8 +109,8 @@ impl<'a> Sheet<'a> {
 
     // ---- the steps of a walk
 
-    // The first record from i on that is no prefix comment: the record of the value of a tree at i. A `for` over numbers: a record is five words
-    // of the table, so there is no slice of records.
+    // The first record from i on that is no prefix comment: the record of the value of a tree at i. A `for` over numbers, and no slice
+    // of records: of a record that the table's end cuts short the words that are there count.
     pub fn after_prefix(self, i: usize) -> usize
         ensures { AfterPrefix self.entry.table.now i result }
     {

@@ -255,8 +255,8 @@ fn stands(text: &[u8], i: usize, b: u8) -> bool
     text.get(i) == Some(&b)
 }
 
-// The end of the bytes from `from` on of which `inside` holds. The `for` goes over places, since the end is one: in a slice of the rest they
-// would be counted from anew.
+// The end of the bytes from `from` on of which `inside` holds. The `for` goes over places, since the end is one: in a slice of the rest
+// they would be counted from anew.
 fn end_while<F: Fn(u8) -> bool>(text: &[u8], from: usize, inside: F) -> usize
     requires within { from ≤ length text.now }
     requires callable { F.IsAlwaysCallable inside }

@@ -1,4 +1,7 @@
 // The pass over the characters of a string, which writes its value. What one character does there stands in mode.rt.
+//
+// The texts are slices of bytes and no `str`: that would have to be shown whole characters before each cut, here and in eon_strings, where
+// one law says so of each piece behind it (`Formed`). They are pieces of a `Text` of eon_utf8, so that they are not longer than one.
 #![tactic(auto)]
 
 ghost use Rattle.std.specs.Prelude.{◌≡◌, ◌+◌, ◌*◌, ◌^◌, ◌≤◌, ◌<◌, length, take, drop};
@@ -98,7 +101,8 @@ fn put_char(out: &mut [u8], at: usize, c: char) -> usize
     put(out, at, encoded.as_bytes())
 }
 
-// Bytes are stored where there is room. The place behind them all is handed back.
+// Bytes are stored where there is room, also in none, which measures. The place behind them all is handed back. No sink of eon_put: a value
+// is counted on where it no longer fits.
 fn put(out: &mut [u8], at: usize, bytes: &[u8]) -> usize
     requires { at + length bytes.now < 2 ^ 64 }
     ensures written { out.new ≡ sets out.old at bytes.now }

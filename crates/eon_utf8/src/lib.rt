@@ -88,7 +88,7 @@ fn one(a: u8) -> Char
 }
 
 // The functions for two, three and four bytes stay apart, and each asks that the further bytes are such: a loop over them would need every
-// row's bounds as its invariant, and a type of a further byte would be made anew of what a row's patterns have just bound, at 19 places.
+// row's bounds as its invariant, and a type of a further byte would be made anew of each byte that a row's pattern has just bound.
 fn two(a: u8, b: u8) -> Char
     requires lead { 0xC0 ≤ a }
     requires trailing { 0x80 ≤ b }
