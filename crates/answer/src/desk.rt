@@ -1,4 +1,8 @@
 // The verbs of the protocol, over the memory that they are lent.
+ghost use Rattle.std.specs.Prelude.{◌≡◌, ◌≤◌, ◌↔◌, length, take, vec_len, IfOk, IfErr, IsOk};
+ghost use Rattle.answer_line.specs.declared.reply.Fault.TheVariants.{BadLine};
+ghost use Rattle.answer.specs.Verbs.{said, identifier_said, tokens_said, read_said, unquote_said, reformat_said, compare_said};
+
 use answer_line::reply::{Fault, Reply};
 use answer_line::tokens::Tokens;
 use answer_line::word;
@@ -23,7 +27,12 @@ pub struct Desk {
 }
 
 impl Desk {
-    pub fn new(alloc: Global) -> Result<Self, AllocError> {
+    pub fn new(alloc: Global) -> Result<Self, AllocError>
+        ensures text { IfOk result (λ desk. vec_len desk.text ≡ TEXT_BYTES) }
+        ensures room { IfOk result (λ desk. vec_len desk.room ≡ ROOM_BYTES) }
+        ensures table { IfOk result (λ desk. vec_len desk.table ≡ TABLE_WORDS) }
+        ensures other { IfOk result (λ desk. vec_len desk.other ≡ TABLE_WORDS) }
+    {
         Ok(Desk {
             text: vec![in alloc; 0; TEXT_BYTES]?,
             room: vec![in alloc; 0; ROOM_BYTES]?,
@@ -51,18 +60,24 @@ impl Desk {
         }
     }
 
-    fn identifier(&mut self, text: &[u8]) -> Result<Reply<'_>, Fault> {
+    fn identifier(&mut self, text: &[u8]) -> Result<Reply<'_>, Fault>
+        ensures { said result ≡ identifier_said (vec_len self.old.text) text.now }
+    {
         let text = word::bytes(text, &mut self.text)?;
         Ok(Reply::Truth(eon_syntax::is_valid_identifier(text)))
     }
 
-    fn tokens(&mut self, text: &[u8]) -> Result<Reply<'_>, Fault> {
+    fn tokens(&mut self, text: &[u8]) -> Result<Reply<'_>, Fault>
+        ensures { said result ≡ tokens_said (vec_len self.old.text) text.now }
+    {
         let text = word::bytes(text, &mut self.text)?;
         Ok(Reply::Tokens(Tokens::of(text)?))
     }
 
     // The value of a quoted text, unescaped into a scratch of so many bytes.
-    fn unquote(&mut self, quoted: &[u8], bytes: usize) -> Result<Reply<'_>, Fault> {
+    fn unquote(&mut self, quoted: &[u8], bytes: usize) -> Result<Reply<'_>, Fault>
+        ensures { said result ≡ unquote_said (vec_len self.old.text) (vec_len self.old.room) quoted.now bytes }
+    {
         let quoted = word::bytes(quoted, &mut self.text)?;
         let scratch = lent(&mut self.room, bytes)?;
         let part = eon_syntax::unescape_and_unquote(quoted, scratch)?;
@@ -70,7 +85,9 @@ impl Desk {
     }
 
     // The records of a text, read into a table of so many words.
-    fn read(&mut self, text: &[u8], words: usize) -> Result<Reply<'_>, Fault> {
+    fn read(&mut self, text: &[u8], words: usize) -> Result<Reply<'_>, Fault>
+        ensures { said result ≡ read_said (vec_len self.old.text) (vec_len self.old.table) text.now words }
+    {
         let text = word::bytes(text, &mut self.text)?;
         let table = lent(&mut self.table, words)?;
         let records = eon_syntax::read(text, table)?;
@@ -79,12 +96,17 @@ impl Desk {
     }
 
     // Both are read, and the first that is refused is the answer.
-    fn compare(&mut self, text1: &[u8], text2: &[u8]) -> Result<Reply<'_>, Fault> {
+    fn compare(&mut self, text1: &[u8], text2: &[u8]) -> Result<Reply<'_>, Fault>
+        ensures { said result ≡
+            compare_said (vec_len self.old.text) (vec_len self.old.room) (vec_len self.old.table) (vec_len self.old.other) text1.now text2.now }
+    {
         let text1 = word::bytes(text1, &mut self.text)?;
         let text2 = word::bytes(text2, &mut self.room)?;
-        eon_syntax::read(text1, &mut self.table)?;
-        eon_syntax::read(text2, &mut self.other)?;
-        let equal = eon_syntax::compare(text1, &self.table, text2, &self.other)?;
+        let table = self.table.as_mut_slice();
+        let other = self.other.as_mut_slice();
+        eon_syntax::read(text1, table)?;
+        eon_syntax::read(text2, other)?;
+        let equal = eon_syntax::compare(text1, table, text2, other)?;
         Ok(Reply::Truth(equal))
     }
 
@@ -133,8 +155,12 @@ impl Desk {
         Ok(Reply::Bytes(front(out, written)))
     }
 
-    // A text is read into a table of so many words, and laid out into so many bytes.
-    fn reformat(&mut self, text: &[u8], words: usize, bytes: usize) -> Result<Reply<'_>, Fault> {
+    // A text is read into a table of so many words, and laid out into so many bytes. What it has in common with `layout` are calls already:
+    // joined, it would only take them as arguments. So it is with `read` and `unquote`.
+    fn reformat(&mut self, text: &[u8], words: usize, bytes: usize) -> Result<Reply<'_>, Fault>
+        ensures { said result ≡
+            reformat_said (vec_len self.old.text) (vec_len self.old.table) (vec_len self.old.room) text.now words bytes }
+    {
         let text = word::bytes(text, &mut self.text)?;
         let table = lent(&mut self.table, words)?;
         let out = lent(&mut self.room, bytes)?;
@@ -144,11 +170,17 @@ impl Desk {
 }
 
 // The first of a memory.
-fn lent<T>(memory: &mut [T], len: usize) -> Result<&mut [T], Fault> {
+fn lent<T>(memory: &mut [T], len: usize) -> Result<&mut [T], Fault>
+    ensures size { IfOk result (λ lent. length lent.now ≡ len) }
+    ensures found { IsOk result ↔ (len ≤ length memory.old) }
+    ensures fault { IfErr result (λ fault. fault ≡ BadLine) }
+{
     memory.get_mut(..len).ok_or(Fault::BadLine)
 }
 
 // The first bytes, as many as there are.
-fn front(bytes: &[u8], n: usize) -> &[u8] {
+fn front(bytes: &[u8], n: usize) -> &[u8]
+    ensures { result.now ≡ take n bytes.now }
+{
     &bytes[..n.min(bytes.len())]
 }

@@ -1,4 +1,7 @@
 // What is answered to a line, as it is printed.
+ghost use Rattle.std.specs.Prelude.{Some};
+ghost use Rattle.answer_line.specs.Printed.{hex_text, numbers_text, reply_text, fault_text};
+
 use crate::tokens::Tokens;
 use eon_spec::Refusal;
 use std::fmt;
@@ -36,11 +39,13 @@ impl From<Refusal> for Fault {
 struct Hex<'a>(&'a [u8]);
 
 impl Display for Hex<'_> {
+    ghost output = { λ x. Some (hex_text x.0.now) };
+
     fn fmt<W: fmt::Write>(&self, f: &mut Formatter<W>) -> fmt::Result {
         if self.0.is_empty() {
             return f.write_str("-");
         }
-        for byte in self.0 {
+        for &byte in self.0 {
             write!(f, "{byte:02x}")?;
         }
         Ok(())
@@ -52,6 +57,8 @@ impl Display for Hex<'_> {
 struct Words<'a>(&'a [u32]);
 
 impl Display for Words<'_> {
+    ghost output = { λ x. Some (numbers_text x.0.now) };
+
     fn fmt<W: fmt::Write>(&self, f: &mut Formatter<W>) -> fmt::Result {
         for word in self.0 {
             write!(f, " {word}")?;
@@ -61,6 +68,8 @@ impl Display for Words<'_> {
 }
 
 impl Display for Reply<'_> {
+    ghost output = { λ x. Some (reply_text x) };
+
     fn fmt<W: fmt::Write>(&self, f: &mut Formatter<W>) -> fmt::Result {
         match *self {
             Reply::Bytes(bytes) => write!(f, "bytes {}", Hex(bytes)),
@@ -73,13 +82,15 @@ impl Display for Reply<'_> {
 }
 
 impl Display for Fault {
+    ghost output = { λ x. Some (fault_text x) };
+
     fn fmt<W: fmt::Write>(&self, f: &mut Formatter<W>) -> fmt::Result {
         match *self {
             Fault::BadLine => f.write_str("error: bad line"),
             Fault::Refused(Refusal { reason, start, end }) => {
                 let number = reason.number();
-                let expected = reason.expected();
-                let found = reason.found();
+                let expected = reason.expected().map_or(0, u32::from);
+                let found = reason.found().map_or(0, u32::from);
                 write!(f, "refused {number} {start} {end} {expected} {found}")
             }
         }

@@ -24,6 +24,12 @@ impl<'a> Tokens<'a> {
 }
 
 impl Display for Tokens<'_> {
+    ghost use Rattle.std.specs.Prelude.{Some};
+    ghost use Rattle.eon_spec.specs.Token.{tokens};
+    ghost use Rattle.answer_line.specs.Printed.{tokens_text};
+
+    ghost output = { λ x. Some (tokens_text (tokens x.0.str.now)) };
+
     // Each token is asked for at the end of the one before.
     fn fmt<W: fmt::Write>(&self, f: &mut Formatter<W>) -> fmt::Result {
         let text = self.0.bytes();

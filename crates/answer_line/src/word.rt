@@ -4,13 +4,14 @@ ghost use Rattle.std.specs.List.{AllPass};
 ghost use Rattle.std.specs.Char.{is_ascii_digit};
 ghost use Rattle.std.specs.Str.Parse.{digits_value};
 ghost use Rattle.hex.specs.Hex.{decode_of};
-ghost use Rattle.answer_line.specs.Word.{IsLowerCase};
+ghost use Rattle.answer_line.specs.Word.{IsLowerCase, bytes_of, by_bytes};
 
 use crate::reply::Fault;
 use hex::decode_to_slice;
 
 // The bytes that pairs of lower-case hexadecimal digits are, or `-` for none, in a room for them.
 pub fn bytes<'a>(word: &[u8], room: &'a mut [u8]) -> Result<&'a [u8], Fault>
+    ensures stands { by_bytes result ≡ bytes_of (length room.old) word.now }
     ensures dash { word.now ≡ codes "-" → IsOk result × IfOk result (λ bytes. bytes.now ≡ []) }
     ensures pairs { IfOk result (λ bytes. (word.now ≡ codes "-") ⊎ (decode_of word.now ≡ Ok bytes.now)) }
     ensures lower { OnOk result (IsLowerCase word.now) }

@@ -1,5 +1,5 @@
 -- What the functions' answers say.
-use Rattle.std.specs.Prelude.{◌≤◌, ◌≡◌, ℕ, Bool, false, List, [], ◌∷◌, ◌++◌, length, take, replicate, Option, Some, None, Result, Ok, Err, ◌⊎◌}
+use Rattle.std.specs.Prelude.{◌≤◌, ◌≡◌, ℕ, Bool, false, List, [], ◌∷◌, ◌++◌, length, take, drop, replicate, Option, Some, None, Result, Ok, Err, ◌⊎◌}
 use Rattle.std.specs.Borrow.{Bor}
 use Rattle.eon_spec.specs.Base.{eq_list, codes}
 use Rattle.eon_spec.specs.Refused.{number_of, refusal_of}
@@ -22,6 +22,11 @@ quotes q n u = eq_list (take n u) (replicate n q)
 -- s without its last bytes
 abbrev pub FrontOf : List ℕ → List ℕ → Type 0
 FrontOf s t = t ≡ take (length t) s
+
+-- bytes of s that stand together there
+pub record PieceOf (s t : List ℕ) : Type 0 where
+  pub from : ℕ
+  pub is : t ≡ take (length t) (drop from s)
 
 -- the text behind n quotes
 pub record Behind (s : List ℕ) (q n : ℕ) (r : List ℕ) : Type 0 where

@@ -2,8 +2,8 @@
 ghost use Rattle.std.specs.Prelude.{◌≡◌, ◌≤◌, ◌<◌, length, IfOk};
 ghost use Rattle.eon_spec.specs.Unquote.{one_line_only, drop_line_feed, unquote_chars};
 ghost use Rattle.eon_unescape.specs.Modes.{reads_by};
-ghost use Rattle.eon_unescape.specs.Views.{kept, Formed, BytesOf};
-ghost use Rattle.eon_strings.specs.Views.{BehindIs, BeforeIs, OneBeforeIs, given, ModeIs};
+ghost use Rattle.eon_unescape.specs.Views.{kept, Formed, BytesOf, TailOf};
+ghost use Rattle.eon_strings.specs.Views.{BehindIs, BeforeIs, OneBeforeIs, PieceOf, given, ModeIs};
 
 use eon_spec::Reason;
 use eon_unescape::Mode;
@@ -50,6 +50,7 @@ pub fn in_quotes(text: &[u8]) -> Result<Contents<'_>, Reason>
     ensures given { unquote_chars (kept text.now) ≡ given result }
     ensures formed { IfOk result (λ c. Formed c.text.now) }
     ensures shorter { IfOk result (λ c. length c.text.now ≤ length text.now) }
+    ensures piece { IfOk result (λ c. PieceOf text.now c.text.now) }
     ensures bytes { IfOk result (λ c. BytesOf text.now c.text.now) }
     ensures mode { IfOk result (λ c. ModeIs text.now c.mode) }
 {
@@ -142,6 +143,7 @@ fn one_line(text: &[u8], mode: Mode) -> Result<Contents<'_>, Reason>
 
 // Literal text without a leading line feed.
 fn without_line_feed(text: &[u8]) -> &[u8]
+    ensures behind { TailOf text.now result.now }
     ensures dropped { drop_line_feed (kept text.now) ≡ kept result.now }
     ensures formed { Formed text.now → Formed result.now }
     ensures shorter { length result.now ≤ length text.now }

@@ -29,8 +29,8 @@ TailOf s t = t ≡ drop (length s - length t) s
 
 -- the first of those characters, and the text behind it
 pub record Begins (s : List ℕ) (n : Next) : Type 0 where
-  pub is : kept s ≡ n.code ∷ kept n.rest.now
   pub behind : TailOf s n.rest.now
+  pub is : kept s ≡ n.code ∷ kept n.rest.now
   pub shorter : length n.rest.now < length s
   pub formed : Formed s → Formed n.rest.now
   pub bytes : BytesOf s n.rest.now

@@ -1,7 +1,7 @@
 // The digits of `\u{..`.
 ghost use Rattle.std.specs.Prelude.{◌≡◌, ◌+◌, ◌*◌, ◌^◌, ◌<◌, ◌≤◌, ◌↔◌, IfSome, IsNone};
 
-// How many digits there are so far, and their number. Public only since a variant of `Mode` holds it.
+// How many digits there are so far, and their number.
 #[derive(Clone, Copy)]
 pub struct Digits {
     pub(crate) count: u32,
@@ -11,7 +11,7 @@ pub struct Digits {
 }
 
 impl Digits {
-    pub(crate) fn new() -> Self
+    pub fn new() -> Self
         ensures none { result.count ≡ 0 }
         ensures zero { result.value ≡ 0 }
     {
@@ -19,7 +19,7 @@ impl Digits {
     }
 
     // With a digit more, unless there are eight.
-    pub(crate) fn with(self, digit: u32) -> Option<Self>
+    pub fn with(self, digit: u32) -> Option<Self>
         requires { digit < 16 }
         ensures ninth { IsNone result ↔ (8 ≤ self.count) }
         ensures count { IfSome result (λ d. d.count ≡ self.count + 1) }

@@ -15,9 +15,9 @@ mod chars;
 mod digits;
 mod mode;
 
-use crate::mode::Step;
 use eon_spec::Reason;
-pub use mode::Mode;
+pub use digits::Digits;
+pub use mode::{Mode, Step};
 
 // A character, and the text behind it.
 #[derive(Clone, Copy)]

@@ -18,15 +18,15 @@ pub enum Mode {
     Digits(Digits),
 }
 
-// What a character that is not refused does: it is taken in, or gives a character.
+// What a character that is not refused does: it is taken in, or gives a character. Two names say more than an Option beside the mode.
 #[derive(Clone, Copy)]
-pub(crate) enum Step {
+pub enum Step {
     Go(Mode),
     Put(char, Mode),
 }
 
 impl Mode {
-    pub(crate) fn read_char(self, c: char) -> Result<Step, Reason>
+    pub fn read_char(self, c: char) -> Result<Step, Reason>
         ensures { (s : List ℕ) → reads_by self (c ∷ s) ≡ onward result s }
     {
         match self {
@@ -41,7 +41,7 @@ impl Mode {
 
     // The text ends.
     #[tactic(auto, unfolding(eon_spec::specs::Unquote::unescape))]
-    pub(crate) fn at_end(self) -> Result<(), Reason>
+    pub fn at_end(self) -> Result<(), Reason>
         ensures { reads_by self [] ≡ ended result }
     {
         match self {

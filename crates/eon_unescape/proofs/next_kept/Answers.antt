@@ -4,8 +4,8 @@ use Rattle.eon_unescape.proofs.next_kept.Goals as goal
 
 pub returns-then-code-ne13 : goal.returns-then-code-ne13
 returns-then-code-ne13 c = let l = c.loop-c in let x = c.in-Some in record {
-  is = l.invariant.same ∙ kept_more l.rest.now x.c x.ensures c.if-code-ne13.true;
   behind = tail_step l.rest.now x.c x.ensures c.args.text.now l.invariant.behind l.invariant.shorter;
+  is = l.invariant.same ∙ kept_more l.rest.now x.c x.ensures c.if-code-ne13.true;
   shorter = let h = shorter l.rest.now x.c x.ensures in omega (arith, h, l.invariant.shorter);
   formed = λ f. formed_step l.rest.now x.c x.ensures (l.invariant.formed f);
   bytes = λ b e. rest_bytes l.rest.now x.c x.ensures b (l.invariant.bytes b e);

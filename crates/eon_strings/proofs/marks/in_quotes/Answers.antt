@@ -1,10 +1,12 @@
-use Rattle.std.proofs.Common.{◌∙◌, ap}
+use Rattle.std.proofs.Common.{◌∙◌, ap, sym, subst}
 use Rattle.eon_spec.specs.Refused.{number_of}
 use Rattle.eon_spec.specs.Unquote.{value, unescape, plain, one_line_only, drop_line_feed}
 use Rattle.eon_unescape.specs.Views.{kept}
 use Rattle.std.proofs.lemmas.Result.{IfOk-weaker}
 use Rattle.eon_strings.specs.declared.marks.Contents.{Contents}
 use Rattle.eon_strings.proofs.Openings.{first_mark, second_mark, third_mark, fourth_mark, no_mark, closed, unclosed, given_err, no_single, plain_mode}
+use Rattle.eon_strings.specs.Views.{PieceOf}
+use Rattle.eon_strings.proofs.Pieces.{between_marks, rest_of_piece}
 use Rattle.eon_strings.proofs.marks.in_quotes.Goals as goal
 
 pub returns-in-Some-clause-given : goal.returns-in-Some-clause-given
@@ -57,3 +59,23 @@ returns-in-Some-behind-3-clause-mode c =
 
 pub returns-clause-given : goal.returns-clause-given
 returns-clause-given c = no_mark (kept c.args.text.now) c.in_default.ensures c.in_default-behind.ensures c.in_default-behind-2.ensures c.in_default-behind-3.ensures
+
+pub returns-in-Some-clause-piece : goal.returns-in-Some-clause-piece
+returns-in-Some-clause-piece c =
+    let rest = c.without_line_feed.ensures in
+    rest_of_piece _ _ _ (between_marks _ _ _ c.in-Some.ensures.behind c.in_ok-inner.ensures.before) rest.behind rest.shorter
+
+pub returns-in-Some-behind-clause-piece : goal.returns-in-Some-behind-clause-piece
+returns-in-Some-behind-clause-piece c =
+    let s = c.args.text.now in
+    let piece = between_marks s _ _ c.in-Some-behind.ensures.behind c.in_ok-inner-2.ensures.before in
+    IfOk-weaker _ _ _ (λ (x : Contents) h. subst (PieceOf s) (sym h) piece) c.one_line.ensures.text
+
+pub returns-in-Some-behind-2-clause-piece : goal.returns-in-Some-behind-2-clause-piece
+returns-in-Some-behind-2-clause-piece c = between_marks _ _ _ c.in-Some-behind-2.ensures.behind c.in_ok-inner-3.ensures.before
+
+pub returns-in-Some-behind-3-clause-piece : goal.returns-in-Some-behind-3-clause-piece
+returns-in-Some-behind-3-clause-piece c =
+    let s = c.args.text.now in
+    let piece = between_marks s _ _ c.in-Some-behind-3.ensures.behind c.in_ok-inner-4.ensures.before in
+    IfOk-weaker _ _ _ (λ (x : Contents) h. subst (PieceOf s) (sym h) piece) c.one_line-in-Some-behind-3.ensures.text
