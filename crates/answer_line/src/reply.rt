@@ -4,6 +4,7 @@ ghost use Rattle.answer_line.specs.Printed.{hex_text, numbers_text, reply_text, 
 
 use crate::tokens::Tokens;
 use eon_spec::Refusal;
+use eon_spec::token_kind::number_or_zero;
 use std::fmt;
 use std::fmt::{Display, Formatter};
 
@@ -89,8 +90,8 @@ impl Display for Fault {
             Fault::BadLine => f.write_str("error: bad line"),
             Fault::Refused(Refusal { reason, start, end }) => {
                 let number = reason.number();
-                let expected = reason.expected().map_or(0, u32::from);
-                let found = reason.found().map_or(0, u32::from);
+                let expected = number_or_zero(reason.expected());
+                let found = number_or_zero(reason.found());
                 write!(f, "refused {number} {start} {end} {expected} {found}")
             }
         }

@@ -23,13 +23,9 @@ pub fn bytes<'a>(word: &[u8], room: &'a mut [u8]) -> Result<&'a [u8], Fault>
     if word.is_empty() || word.iter().any(u8::is_ascii_uppercase) {
         return Err(Fault::BadLine);
     }
-    let Some(bytes) = room.get_mut(..word.len() / 2) else {
-        return Err(Fault::BadLine);
-    };
-    match decode_to_slice(word, bytes) {
-        Ok(()) => Ok(bytes),
-        Err(_) => Err(Fault::BadLine),
-    }
+    let bytes = room.get_mut(..word.len() / 2).ok_or(Fault::BadLine)?;
+    decode_to_slice(word, bytes).map_err(|_| Fault::BadLine)?;
+    Ok(bytes)
 }
 
 // The number that one to five decimal digits are.
@@ -52,9 +48,7 @@ pub fn table<'a>(bytes: &[u8], room: &'a mut [u32]) -> Result<&'a [u32], Fault>
     ensures found { length bytes.now % 4 ≡ 0 → length bytes.now ≤ 4 * length room.old → IsOk result }
 {
     let (chunks, rest) = bytes.as_chunks::<4>();
-    let Some(table) = room.get_mut(..chunks.len()) else {
-        return Err(Fault::BadLine);
-    };
+    let table = room.get_mut(..chunks.len()).ok_or(Fault::BadLine)?;
     if !rest.is_empty() {
         return Err(Fault::BadLine);
     }

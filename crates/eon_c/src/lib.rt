@@ -2,8 +2,6 @@
 #![tactic(auto)]
 
 ghost use Rattle.std.specs.Prelude.{◌≡◌, length};
-ghost use Rattle.std.specs.Option.{option_map_or};
-ghost use Rattle.eon_spec.specs.Token.{kind_number};
 ghost use Rattle.eon_spec.specs.Unquote.{is_valid_identifier};
 ghost use Rattle.eon_spec.specs.Refused.{refusal_of};
 ghost use Rattle.eon_spec.specs.Calls.{after, outcome_of, read_call, format_call, reformat_call, compare_call, unquote_call, part_of, show_call};
@@ -11,7 +9,8 @@ ghost use Rattle.eon_spec.specs.Pick.{record_at_call, records_in_call};
 ghost use Rattle.eon_spec.specs.Lookup.{lookup_call, steps_of};
 ghost use Rattle.eon_c.specs.Words.{refused_words, done_words, count_words, truth_words, slice_number, which_of, part_words, shown_words, options_of, LentAnswers, found_or};
 
-use eon_spec::{FormatOptions, Found, Hit, PATHS_MAX, Part, Refusal, Setting, TokenKind, Which};
+use eon_spec::{FormatOptions, Found, Hit, PATHS_MAX, Part, Refusal, Setting, Which};
+use eon_spec::token_kind::number_or_zero;
 
 fn refused_words(r: Refusal) -> [u64; 8]
     ensures { result ≡ refused_words (refusal_of r) }
@@ -20,19 +19,12 @@ fn refused_words(r: Refusal) -> [u64; 8]
         u64::from(r.reason.number()),
         r.start as u64,
         r.end as u64,
-        kind_word(r.reason.expected()),
-        kind_word(r.reason.found()),
+        u64::from(number_or_zero(r.reason.expected())),
+        u64::from(number_or_zero(r.reason.found())),
         0,
         0,
         0,
     ]
-}
-
-// 0 is C's word for no kind.
-fn kind_word(kind: Option<TokenKind>) -> u64
-    ensures { result ≡ option_map_or kind_number kind 0 }
-{
-    kind.map_or(0, |kind| u64::from(u32::from(kind)))
 }
 
 // The words that an answer does not use are 0, and a slice is a number, as include/eon.h promises.

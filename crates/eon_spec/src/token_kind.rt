@@ -1,5 +1,7 @@
 // The kinds of tokens (TokenKind of token_kind.rs).
 ghost use Rattle.std.specs.Prelude.{◌≡◌};
+ghost use Rattle.std.specs.Option.{option_map_or};
+ghost use Rattle.eon_spec.specs.Token.{kind_number};
 
 // In the order of the original's enum, behind `Invalid` for a character that begins no token.
 #[derive(Clone, Copy, PartialEq, Eq)]
@@ -31,4 +33,11 @@ impl From<TokenKind> for u32 {
     fn from(kind: TokenKind) -> u32 {
         kind as u32
     }
+}
+
+// The number that the papers and C tell of a kind: 0, if there is none.
+pub fn number_or_zero(kind: Option<TokenKind>) -> u32
+    ensures { result ≡ option_map_or kind_number kind 0 }
+{
+    kind.map_or(0, u32::from)
 }

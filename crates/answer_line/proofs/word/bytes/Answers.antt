@@ -12,11 +12,11 @@ returns-then-is_empty-clause-stands c = elim c.then-is_empty.branch [
   | then-is_empty-via-else-is_empty+then-any w ↦ sym (capital _ _ (search rules) (search rules))
 ]
 
-pub returns-in_default-clause-stands : goal.returns-in_default-clause-stands
-returns-in_default-clause-stands c = sym (long _ _ (search rules) (search rules))
+pub returns-in_err-bytes-clause-stands : goal.returns-in_err-bytes-clause-stands
+returns-in_err-bytes-clause-stands c = let said = long (length c.args.room.now) c.args.word.now (search rules) (search rules) in search (rules, said)
 
-pub returns-in-Ok-clause-stands : goal.returns-in-Ok-clause-stands
-returns-in-Ok-clause-stands c = let said = decoded (length c.args.room.now) c.args.word.now (search rules) (search rules) (search rules) (search rules) in search (rules, said)
+pub returns-clause-stands : goal.returns-clause-stands
+returns-clause-stands c = let said = decoded (length c.args.room.now) c.args.word.now (search rules) (search rules) (search rules) (search rules) in search (rules, said)
 
-pub returns-in-Err-clause-stands : goal.returns-in-Err-clause-stands
-returns-in-Err-clause-stands c = let said = decoded (length c.args.room.now) c.args.word.now (search rules) (search rules) (search rules) (search rules) in search (rules, said)
+pub returns-in_err-map_err-clause-stands : goal.returns-in_err-map_err-clause-stands
+returns-in_err-map_err-clause-stands c = let said = decoded (length c.args.room.now) c.args.word.now (search rules) (search rules) (search rules) (search rules) in search (rules, said)
