@@ -19,7 +19,7 @@ const ROOM_BYTES: usize = 524288;
 const TABLE_WORDS: usize = RECORD_WORDS * (TEXT_MAX + 1);
 
 #[derive(Drop)]
-pub struct Desk {
+pub(crate) struct Desk {
     text: Vec<u8>,
     room: Vec<u8>,
     table: Vec<u32>,
@@ -27,7 +27,7 @@ pub struct Desk {
 }
 
 impl Desk {
-    pub fn new(alloc: Global) -> Result<Self, AllocError>
+    pub(crate) fn new(alloc: Global) -> Result<Self, AllocError>
         ensures text { IfOk result (λ desk. vec_len desk.text ≡ TEXT_BYTES) }
         ensures room { IfOk result (λ desk. vec_len desk.room ≡ ROOM_BYTES) }
         ensures table { IfOk result (λ desk. vec_len desk.table ≡ TABLE_WORDS) }
@@ -42,7 +42,7 @@ impl Desk {
     }
 
     // What the verb gives on the words behind it.
-    pub fn answer(&mut self, words: &[&[u8]]) -> Result<Reply<'_>, Fault> {
+    pub(crate) fn answer(&mut self, words: &[&[u8]]) -> Result<Reply<'_>, Fault> {
         match words {
             [b"identifier", text] => self.identifier(text),
             [b"tokens", text] => self.tokens(text),
