@@ -30,7 +30,7 @@ impl Display for Tokens<'_> {
 
     ghost output = { λ x. Some (tokens_text (tokens x.0.str.now)) };
 
-    // Each token is asked for at the end of the one before.
+    // Each token is asked for at the end of the one before. A `loop` as in eon_reader, and for the same reason.
     fn fmt<W: fmt::Write>(&self, f: &mut Formatter<W>) -> fmt::Result {
         let text = self.0.bytes();
         let mut from = 0;

@@ -59,6 +59,7 @@ fn found_or(f: Found, old: [u32; PATHS_MAX]) -> [u32; PATHS_MAX]
     }
 }
 
+// C's numbers of the slices stand here and not as a From beside the type, since nobody else counts them.
 fn slice_number(which: Which) -> u64
     ensures { result ≡ slice_number which }
 {

@@ -98,8 +98,8 @@ pub fn count(text: &[u8]) -> Result<usize, Refusal>
     count_checked(Text::of(text)?)
 }
 
-// How many tokens a text has, or the first invalid one. The end of the text is a token as well, which the loop ends at: an iterator that
-// left it out would be one more way over the tokens, for this loop alone.
+// How many tokens a text has, or the first invalid one. The end of the text is a token as well, of no kind: an iterator that ended there
+// would hand out tokens whose kind has to be told from none once more.
 fn count_checked(text: Text) -> Result<usize, Refusal>
     ensures { outcome_of result ≡ counted (tokens text.entry.str.now) }
 {

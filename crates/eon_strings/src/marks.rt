@@ -1,4 +1,5 @@
-// The quotes around a text, and what stands between them.
+// The quotes around a text, and what stands between them. The texts are slices of bytes, each `Formed`: eon_unescape says why they are no
+// `str`.
 ghost use Rattle.std.specs.Prelude.{◌≡◌, ◌≤◌, ◌<◌, length, IfOk};
 ghost use Rattle.eon_spec.specs.Unquote.{one_line_only, drop_line_feed, unquote_chars};
 ghost use Rattle.eon_unescape.specs.Modes.{reads_by};
@@ -110,7 +111,8 @@ fn before(text: &[u8], mark: Mark) -> Result<&[u8], Reason>
     Ok(rest)
 }
 
-// The text before one quote of the mark. A quote is ASCII, so it is the last byte but for carriage returns.
+// The text before one quote of the mark. A quote is ASCII, so it is the last byte but for carriage returns. The loop hands back what stands
+// before the byte, which the library's searches from the end do not.
 fn before_one(text: &[u8], mark: Mark) -> Option<&[u8]>
     requires { Formed text.now }
     ensures { OneBeforeIs text.now mark.quote result }

@@ -11,6 +11,7 @@ pub struct Digits {
 }
 
 impl Digits {
+    // None so far.
     pub fn new() -> Self
         ensures none { result.count ≡ 0 }
         ensures zero { result.value ≡ 0 }
@@ -18,7 +19,7 @@ impl Digits {
         Digits { count: 0, value: 0 }
     }
 
-    // With a digit more, unless there are eight.
+    // With a digit more, unless there are eight. One by one, as the characters come: the library's parsing takes a text whole.
     pub fn with(self, digit: u32) -> Option<Self>
         requires { digit < 16 }
         ensures ninth { IsNone result ↔ (8 ≤ self.count) }
