@@ -111,8 +111,8 @@ fn before(text: &[u8], mark: Mark) -> Result<&[u8], Reason>
     Ok(rest)
 }
 
-// The text before one quote of the mark. A quote is ASCII, so it is the last byte but for carriage returns. The loop hands back what stands
-// before the byte, which the library's searches from the end do not.
+// The text before one quote of the mark. A quote is ASCII, so it is the last byte but for carriage returns. A pattern takes the last byte
+// and what stands before it at once; `rposition` gives a place, at which the slice would still have to be cut.
 fn before_one(text: &[u8], mark: Mark) -> Option<&[u8]>
     requires { Formed text.now }
     ensures { OneBeforeIs text.now mark.quote result }
