@@ -1,5 +1,5 @@
 -- The answer of a layout: what was measured decides it.
-use Rattle.std.proofs.Common.{◌≡◌, ℕ, ◌-◌, ◌≤◌, Bool, true, false, cond, leb, List, ◌++◌, length, drop, Option, Some, None, refl, sym, ap, ◌∙◌, zero-add, arith}
+use Rattle.std.proofs.Common.{◌≡◌, ℕ, ◌-◌, ◌≤◌, Bool, true, false, cond, leb, List, ◌++◌, length, drop, Some, None, refl, ap, ◌∙◌, zero-add, arith}
 use Rattle.std.proofs.lemmas.List.Edits.{sets, sets-eq}
 use Rattle.eon_laws.proofs.Facts.{le_of}
 use Rattle.eon_put.specs.Put.{left_after}
@@ -8,12 +8,6 @@ use Rattle.eon_spec.specs.declared.FormatOptions.{FormatOptions}
 use Rattle.eon_spec.specs.Layout.{settings_of, format}
 use Rattle.eon_spec.specs.Calls.{done, refused_with, nowhere, after, fill, read_finished, good_settings, checked_settings, format_call}
 
-some_none : {A : Type 0} (n : ℕ) → Some n ≡ None → A
-some_none n e = absurd (let y : ◌≡◌ {A = ℕ} 0 1 = ap (λ (o : Option ℕ). elim o [ Some m ↦ 0 | None ↦ 1 ]) e in omega arith)
-
-some_same : (m n : ℕ) → Some m ≡ Some n → m ≡ n
-some_same m n e = ap (λ (o : Option ℕ). elim o [ Some k ↦ k | None ↦ 0 ]) e
-
 module _ (l b : List ℕ) where
   -- all of b fits, and so much room is left
   pub fits : (left : ℕ) → left_after (Some (length l)) (length b) ≡ Some left → (length b ≤ length l) × (length l - left ≡ length b)
@@ -21,9 +15,9 @@ module _ (l b : List ℕ) where
     where
       go : (t : Bool) → leb (length b) (length l) ≡ t → cond t (Some (length l - length b)) None ≡ Some left → (length b ≤ length l) × (length l - left ≡ length b)
       go true e f = let h : length b ≤ length l = le_of (length b) (length l) e in
-          let k : length l - length b ≡ left = some_same (length l - length b) left f in
+          let k : length l - length b ≡ left = cc in
           (h, omega arith)
-      go false e f = some_none left (sym f)
+      go false e f = cc
 
   pub filled : (left : ℕ) → left_after (Some (length l)) (length b) ≡ Some left → (l' : List ℕ) → l' ≡ sets l 0 b → after (done (length l - left)) l' ≡ fill {A = ℕ} l (done (length b, b))
   unfolding fill
@@ -31,18 +25,18 @@ module _ (l b : List ℕ) where
     where
       go : (t : Bool) → leb (length b) (length l) ≡ t → cond t (Some (length l - length b)) None ≡ Some left → (l' : List ℕ) → l' ≡ sets l 0 b → after (done (length l - left)) l' ≡ fill {A = ℕ} l (done (length b, b))
       go true e f l' q = let h : length b ≤ length l = le_of (length b) (length l) e in
-          let k : length l - length b ≡ left = some_same (length l - length b) left f in
+          let k : length l - length b ≡ left = cc in
           let n : length l - left ≡ length b = omega arith in
           let z : sets l 0 b ≡ b ++ drop (length b) l = sets-eq b l 0 (omega arith) ∙ ap (λ (k : ℕ). b ++ drop k l) (zero-add (length b)) in
           ap (λ (k : ℕ). after (done k) l') n ∙ ap (after (done (length b))) (q ∙ z) ∙ rw (e, fill)
-      go false e f l' q = some_none left (sym f)
+      go false e f l' q = cc
 
   pub full : left_after (Some (length l)) (length b) ≡ None → after (refused_with (nowhere 14)) l ≡ fill {A = ℕ} l (done (length b, b))
   unfolding fill
   full = go (leb (length b) (length l)) refl
     where
       go : (t : Bool) → leb (length b) (length l) ≡ t → cond t (Some (length l - length b)) None ≡ None → after (refused_with (nowhere 14)) l ≡ fill {A = ℕ} l (done (length b, b))
-      go true e f = some_none (length l - length b) f
+      go true e f = cc
       go false e f = rw (e, fill)
 
 -- what the layout call's definition asks of a walk over a finished table

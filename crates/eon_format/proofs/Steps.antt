@@ -1,6 +1,5 @@
 -- From the long forms to the definition.
-use Rattle.std.proofs.Common.{◌≡◌, refl, sym, ap, ◌∙◌, Bool, true, false, ◌&&◌, cond, List, [], ◌∷◌, ◌++◌, append_assoc, ℕ, ◌+◌, ◌-◌, ◌≤◌, ◌<◌, arith, add-one, length, eqb, eq-eqb, ne_eqb}
-use native.Mathlib.Decide.{dec_le}
+use Rattle.std.proofs.Common.{subst, ◌≡◌, refl, sym, ap, ◌∙◌, Bool, true, false, ◌&&◌, cond, List, [], ◌∷◌, ◌++◌, append_assoc, ℕ, ◌+◌, ◌-◌, ◌≤◌, ◌<◌, arith, add-one, length, eqb, eq-eqb, ne_eqb}
 use Rattle.eon_spec.specs.Base.{codes}
 use Rattle.eon_spec.specs.Tree.{Slice, TokenTree, TokenValue, TokenTrees, KeyValues, tree, identifier, number, quoted_string, list_of, map_of, variant_of, no_trees, ◌∷ᵗ◌, no_pairs, pair}
 use Rattle.eon_spec.specs.Layout.{Settings, map_content, is_empty, no_values, no_key_values, on_one_line, value, bare_value, prefix_of, suffix_of, closing, indented_value, add_indent, indented_comments, suffix_comment, is_sole_container, is_container, shared, shared_first}
@@ -13,15 +12,16 @@ use Rattle.eon_put.proofs.Going.{Appends, put_as}
 use Rattle.eon_one_line.proofs.Trees.{one_line_law}
 use Rattle.eon_format.specs.Long.{long_list, long_map, long_variant, pair_text, blank_at}
 use Rattle.eon_one_line.proofs.Rows.{more_list, more_map}
-use Rattle.eon_format.proofs.Walk.{paired_empty}
-use Rattle.eon_table.specs.Words.{word, text_at}
-use Rattle.eon_table.specs.TreeAt.{PairedAt, SomeList, SomeMap, SomeVariant, ValueAt, InsideAt, kind_of, value_of}
+use Rattle.eon_format.proofs.Walk.{Paired, paired_empty, paired_done, paired_all, map_content_lem}
+use Rattle.eon_table.proofs.Here.{list_is, map_is}
+use Rattle.eon_table.specs.Words.{word, text_at, more_at}
+use Rattle.eon_table.specs.TreeAt.{PairedAt, SomeList, SomeMap, SomeVariant, ValueAt, InsideAt, value_of}
 use Rattle.eon_laws.proofs.Records.{tree_size, value_size, trees_size, pairs_size}
-use Rattle.eon_table.proofs.Walk.{tree_pos, value_kind, value_size_lem, list_inside_lem, variant_inside, paired_end, paired_closing}
+use Rattle.eon_table.proofs.Walk.{tree_pos, value_pos, value_kind, value_size_lem, variant_inside, paired_end, paired_closing}
 
-pub indented_law : (o : Settings) (n : ℕ) (t : TokenTree) → indented_comments o n (prefix_of t) ++ add_indent o n ++ value o n (value_of t) ++ suffix_comment o (suffix_of t) ≡ indented_value o n t
+pub indented_law : (o : Settings) (n : ℕ) (t : TokenTree) {x : List ℕ} → x ≡ indented_comments o n (prefix_of t) → x ++ add_indent o n ++ value o n (value_of t) ++ suffix_comment o (suffix_of t) ≡ indented_value o n t
 unfolding indented_value
-indented_law o n (tree sp p v x) = refl
+indented_law o n (tree sp p v x) e = ap (λ (l : List ℕ). l ++ add_indent o n ++ value o n v ++ suffix_comment o x) e
 
 pub bare_law : (o : Settings) (n : ℕ) (t : TokenTree) → value o n (value_of t) ≡ bare_value o n t
 unfolding bare_value
@@ -71,24 +71,11 @@ module _ (o : Settings) (n : ℕ) where
 module _ (s tb : List ℕ) (i : ℕ) where
   -- ---- what stands at a record of a kind
 
-  off_kind : {A : Type 0} (v : TokenValue) (k : ℕ) → ValueAt s tb i v → word tb i 0 ≡ k → (kind_of v ≡ k → ⊥) → A
-  off_kind v k h e f = absurd (f (sym (value_kind s tb i v h) ∙ e))
-
   pub value_list : (v : TokenValue) → ValueAt s tb i v → word tb i 0 ≡ 4 → SomeList s tb i
-  value_list (identifier b) h e = off_kind (identifier b) 4 h e (λ z. omega arith)
-  value_list (number b) h e = off_kind (number b) 4 h e (λ z. omega arith)
-  value_list (quoted_string b) h e = off_kind (quoted_string b) 4 h e (λ z. omega arith)
-  value_list (list_of vs cl) h e = (vs, cl, h)
-  value_list (map_of kvs cl) h e = off_kind (map_of kvs cl) 4 h e (λ z. omega arith)
-  value_list (variant_of m vs cl) h e = off_kind (variant_of m vs cl) 4 h e (λ z. omega arith)
+  value_list v h e = let z = list_is s tb i _ refl v h e in (z.items, z.closing, subst (ValueAt s tb i) z.is h)
 
   pub value_map : (v : TokenValue) → ValueAt s tb i v → word tb i 0 ≡ 5 → SomeMap s tb i
-  value_map (identifier b) h e = off_kind (identifier b) 5 h e (λ z. omega arith)
-  value_map (number b) h e = off_kind (number b) 5 h e (λ z. omega arith)
-  value_map (quoted_string b) h e = off_kind (quoted_string b) 5 h e (λ z. omega arith)
-  value_map (list_of vs cl) h e = off_kind (list_of vs cl) 5 h e (λ z. omega arith)
-  value_map (map_of kvs cl) h e = (kvs, cl, h)
-  value_map (variant_of m vs cl) h e = off_kind (variant_of m vs cl) 5 h e (λ z. omega arith)
+  value_map v h e = let z = map_is s tb i _ refl v h e in (z.items, z.closing, subst (ValueAt s tb i) z.is h)
 
   pub not_flat : flat_at s tb i ≡ false → word tb i 4 ≡ 1 → ⊥
   not_flat f e = clash (sym (flat_one s tb i e)) f
@@ -127,21 +114,18 @@ module _ (s tb : List ℕ) (i : ℕ) where
   module _ (o : Settings) (n : ℕ) {A : Type 0} (puts : A → List ℕ → A → Type 0) {from to : A} where
     pub list_value : (v : TokenValue) → ValueAt s tb i v → flat_at s tb i ≡ false → word tb i 0 ≡ 4 →
         ((vs : TokenTrees) (cl : List Slice) → ValueAt s tb i (list_of vs cl) → puts from (long_list o n vs cl) to) → puts from (value o n v) to
-    list_value (identifier b) h f e w = off_kind (identifier b) 4 h e (λ z. omega arith)
-    list_value (number b) h f e w = off_kind (number b) 4 h e (λ z. omega arith)
-    list_value (quoted_string b) h f e w = off_kind (quoted_string b) 4 h e (λ z. omega arith)
-    list_value (list_of vs cl) h f e w = put_as puts (list_lines o n vs cl (full_list vs cl h (not_flat f)) (not_line vs cl 4 (list_inside_lem s tb i vs cl h) e (λ z. omega arith) f)) (w vs cl h)
-    list_value (map_of kvs cl) h f e w = off_kind (map_of kvs cl) 4 h e (λ z. omega arith)
-    list_value (variant_of m vs cl) h f e w = off_kind (variant_of m vs cl) 4 h e (λ z. omega arith)
+    list_value v h f e w =
+        let z = list_is s tb i _ refl v h e in
+        let a = subst (ValueAt s tb i) z.is h in
+        subst (λ (u : TokenValue). puts from (value o n u) to) (sym z.is)
+        (put_as puts (list_lines o n z.items z.closing (full_list _ _ a (not_flat f)) (not_line _ _ 4 z.inside e (λ k. omega arith) f)) (w z.items z.closing a))
 
     pub map_value_lem : (v : TokenValue) → ValueAt s tb i v → flat_at s tb i ≡ false → word tb i 0 ≡ 5 →
         ((kvs : KeyValues) (cl : List Slice) → ValueAt s tb i (map_of kvs cl) → puts from (long_map o n kvs cl) to) → puts from (value o n v) to
-    map_value_lem (identifier b) h f e w = off_kind (identifier b) 5 h e (λ z. omega arith)
-    map_value_lem (number b) h f e w = off_kind (number b) 5 h e (λ z. omega arith)
-    map_value_lem (quoted_string b) h f e w = off_kind (quoted_string b) 5 h e (λ z. omega arith)
-    map_value_lem (list_of vs cl) h f e w = off_kind (list_of vs cl) 5 h e (λ z. omega arith)
-    map_value_lem (map_of kvs cl) h f e w = put_as puts (map_lines o n kvs cl (full_map kvs cl h (not_flat f))) (w kvs cl h)
-    map_value_lem (variant_of m vs cl) h f e w = off_kind (variant_of m vs cl) 5 h e (λ z. omega arith)
+    map_value_lem v h f e w =
+        let z = map_is s tb i _ refl v h e in
+        let a = subst (ValueAt s tb i) z.is h in
+        subst (λ (u : TokenValue). puts from (value o n u) to) (sym z.is) (put_as puts (map_lines o n z.items z.closing (full_map _ _ a (not_flat f))) (w z.items z.closing a))
 
     pub variant_value : (v : TokenValue) → ValueAt s tb i v → flat_at s tb i ≡ false → (word tb i 0 ≡ 4 → ⊥) → (word tb i 0 ≡ 5 → ⊥) →
         ((m : Slice) (vs : TokenTrees) (cl : List Slice) → ValueAt s tb i (variant_of m vs cl) → puts from (value o n (variant_of m vs cl)) to) → puts from (value o n v) to
@@ -188,12 +172,10 @@ module _ (s tb : List ℕ) (i : ℕ) where
 
     pub list_shared : (v : TokenValue) → ValueAt s tb i v → (word tb i 4 ≡ 1 → ⊥) → word tb i 0 ≡ 4 →
         ((vs : TokenTrees) (cl : List Slice) → ValueAt s tb i (list_of vs cl) → puts from (long_list o n vs cl) to) → puts from (shared o n v) to
-    list_shared (identifier b) h f e w = off_kind (identifier b) 4 h e (λ z. omega arith)
-    list_shared (number b) h f e w = off_kind (number b) 4 h e (λ z. omega arith)
-    list_shared (quoted_string b) h f e w = off_kind (quoted_string b) 4 h e (λ z. omega arith)
-    list_shared (list_of vs cl) h f e w = put_as puts (shared_list o n vs cl (full_list vs cl h f)) (w vs cl h)
-    list_shared (map_of kvs cl) h f e w = off_kind (map_of kvs cl) 4 h e (λ z. omega arith)
-    list_shared (variant_of m vs cl) h f e w = off_kind (variant_of m vs cl) 4 h e (λ z. omega arith)
+    list_shared v h f e w =
+        let z = list_is s tb i _ refl v h e in
+        let a = subst (ValueAt s tb i) z.is h in
+        subst (λ (u : TokenValue). puts from (shared o n u) to) (sym z.is) (put_as puts (shared_list o n z.items z.closing (full_list _ _ a f)) (w z.items z.closing a))
 
     pub map_shared : (v : TokenValue) → ValueAt s tb i v → is_container v ≡ true → (word tb i 4 ≡ 1 → ⊥) → (word tb i 0 ≡ 4 → ⊥) →
         ((kvs : KeyValues) (cl : List Slice) → ValueAt s tb i (map_of kvs cl) → puts from (long_map o n kvs cl) to) → puts from (shared o n v) to
@@ -213,18 +195,18 @@ module _ (s tb : List ℕ) (i : ℕ) where
   container_map (variant_of m vs cl) h c e = clash c refl
 
 -- the closing comments after a map's pairs
-pub paired_closed : (s tb : List ℕ) (end : ℕ) (o : Settings) (n j base : ℕ) (kvs : KeyValues) (cl : List Slice) → PairedAt s tb end base kvs cl → PairedAt s tb end j no_pairs cl →
-    {A : Type 0} (puts : A → List ℕ → A → Type 0) → Appends puts → {from to to' : A} → puts from (map_content o n true kvs) to → puts to (closing_lines s tb o n (eqb j base) j (end - j)) to' →
+pub paired_closed : {A : Type 0} (puts : A → List ℕ → A → Type 0) → Appends puts → {s tb : List ℕ} {end j base : ℕ} {cl : List Slice} {from to to' : A} (o : Settings) (n : ℕ) (kvs : KeyValues) → PairedAt s tb end base kvs cl →
+    Paired s tb end puts from (map_content o n true kvs) (map_content o n) cl base j to → more_at tb end j ≡ false → puts to (closing_lines s tb o n (eqb j base) j (end - j)) to' →
     puts from (map_content o n true kvs ++ closing o n (no_key_values kvs) cl) to'
-paired_closed s tb end o n j base kvs cl h d puts append {from} {to} {to'} w v =
-    let z : end ≡ j + length cl = paired_end s tb end j cl d in
-    let u : end - j ≡ length cl = omega arith in
+paired_closed puts append {s} {tb} {end} {j} {base} {cl} {from} {to} {to'} o n kvs h w m v =
+    let d = paired_done puts w m in
+    let u : end - j ≡ length cl = omega (arith, paired_end s tb end j cl d) in
     put_as puts
     (ap (λ (x : List ℕ). map_content o n true kvs ++ x)
     (ap (closing_lines s tb o n (eqb j base) j) u
     ∙ closing_comments s tb o n j (eqb j base) cl (paired_closing s tb end j cl d)
-    ∙ ap (λ (x : Bool). closing o n x cl) (paired_empty s tb end base j kvs cl h d)))
-    (append from to to' (map_content o n true kvs) _ w v)
+    ∙ ap (λ (x : Bool). closing o n x cl) (paired_empty base j kvs cl h d)))
+    (append from to to' (map_content o n true kvs) _ (paired_all puts w m (map_content_lem o n)) v)
 
 pub map_law : (o : Settings) (n : ℕ) (kvs : KeyValues) (cl : List Slice) →
     (123 ∷ []) ++ o.newline ++ (map_content o (n + 1) true kvs ++ closing o (n + 1) (no_key_values kvs) cl) ++ (add_indent o n ++ (125 ∷ [])) ≡ long_map o n kvs cl
@@ -232,17 +214,9 @@ map_law o n kvs cl =
     ap (λ (m : ℕ). (123 ∷ []) ++ o.newline ++ (map_content o m true kvs ++ closing o m (no_key_values kvs) cl) ++ (add_indent o n ++ (125 ∷ []))) (add-one n)
     ∙ simp append_assoc
 
--- ---- numbers
-
-pub more_than_one : (i n : ℕ) → 1 ≤ n → (n ≡ 1 → ⊥) → i + 1 < i + n
-more_than_one i n h e = go (dec_le n 1)
-  where
-    go : Dec (n ≤ 1) → i + 1 < i + n
-    go (yes d) = absurd (e (omega arith))
-    go (no d) = omega arith
-
-pub two_steps : (j a b k v : ℕ) → a ≡ j + k → (a ≡ j + k → b ≡ a + v) → b ≡ j + k + v
-two_steps j a b k v p f = let q : b ≡ a + v = f p in omega arith
+-- a value of several records
+pub several : (s tb : List ℕ) (i : ℕ) (v : TokenValue) → ValueAt s tb i v → (word tb i 4 ≡ 1 → ⊥) → 1 < word tb i 4
+several s tb i v h e = omega (arith, value_size_lem s tb i v h, value_pos v)
 
 -- ---- a key and its value
 

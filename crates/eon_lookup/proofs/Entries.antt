@@ -1,7 +1,7 @@
 -- What an answered lookup is: what the paths of a path list find in the event's tree. It has an entry for each of 128 paths, and its steps are
 -- no more than the event's records.
 use Rattle.std.proofs.Common.{Option, None, Some, ◌≡◌, refl, sym, ◌∙◌, ap, Bool, true, false, cond, List, [], ℕ, ◌≤◌, arith, length, leb}
-use Rattle.std.proofs.Math.ListN.{length-replicate}
+use Rattle.std.proofs.lemmas.List.{length-replicate}
 use Rattle.eon_spec.specs.Tree.{TokenTree, TokenValue, tree, identifier, number, quoted_string, list_of, map_of, variant_of}
 use Rattle.eon_spec.specs.Records.{tree_records}
 use Rattle.eon_spec.specs.Calls.{Outcome, done, refused_with, then, or_refused, read_finished}
@@ -14,20 +14,20 @@ use Rattle.eon_lookup.proofs.Steps.{few_steps}
 -- ---- a path list has at most 128 paths
 
 kept : {A : Type 0} (test : A → Bool) (o : Option A) (a : A) → keep_if test o ≡ Some a → test a ≡ true
-kept test None a e = absurd (let z : ◌≡◌ {A = ℕ} 0 1 = cc in omega arith)
+kept test None a e = cc
 kept {A} test (Some b) a e = go (test b) refl e
   where
     go : (x : Bool) → test b ≡ x → cond x (Some b) None ≡ Some a → test a ≡ true
     go true p e = let z : b ≡ a = cc in ap test (sym z) ∙ p
-    go false p e = absurd (let z : ◌≡◌ {A = ℕ} 0 1 = cc in omega arith)
+    go false p e = cc
 
 list_few : (v : TokenValue) (ps : List Path) → path_list_in v ≡ Some ps → length ps ≤ paths_max
-list_few (identifier b) ps e = absurd (let z : ◌≡◌ {A = ℕ} 0 1 = cc in omega arith)
-list_few (number b) ps e = absurd (let z : ◌≡◌ {A = ℕ} 0 1 = cc in omega arith)
-list_few (quoted_string b) ps e = absurd (let z : ◌≡◌ {A = ℕ} 0 1 = cc in omega arith)
+list_few (identifier b) ps e = cc
+list_few (number b) ps e = cc
+list_few (quoted_string b) ps e = cc
 list_few (list_of vs cl) ps e = le_of (length ps) paths_max (kept (λ (qs : List Path). leb (length qs) paths_max) (paths_of vs) ps e)
-list_few (map_of kvs cl) ps e = absurd (let z : ◌≡◌ {A = ℕ} 0 1 = cc in omega arith)
-list_few (variant_of n vs cl) ps e = absurd (let z : ◌≡◌ {A = ℕ} 0 1 = cc in omega arith)
+list_few (map_of kvs cl) ps e = cc
+list_few (variant_of n vs cl) ps e = cc
 
 pub few_paths : (u : TokenTree) (ps : List Path) → path_list u ≡ Some ps → length ps ≤ paths_max
 unfolding path_list

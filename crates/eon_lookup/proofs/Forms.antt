@@ -24,7 +24,7 @@ abbrev pub prepend : {A : Type 0} → List A → Option (List A) → Option (Lis
 prepend front None = None
 prepend front (Some l) = Some (front ++ l)
 
-module _ {A : Type 0} (f : TokenTree → Option A) (fs : TokenTrees → Option (List A)) (empty : fs no_trees ≡ Some []) (first : (t : TokenTree) (ts : TokenTrees) → fs (t ∷ᵗ ts) ≡ both (λ x l. x ∷ l) (f t) (fs ts)) (s tb : List ℕ) (end : ℕ) (vs : TokenTrees) (cl : List Slice) where
+module _ {A : Type 0} (fs : TokenTrees → Option (List A)) (s tb : List ℕ) (end : ℕ) (vs : TokenTrees) (cl : List Slice) where
   -- `front` was read before record j
   pub record Listed (j : ℕ) (front : List A) : Type 0 where
     pub left : TokenTrees
@@ -38,21 +38,22 @@ module _ {A : Type 0} (f : TokenTree → Option A) (fs : TokenTrees → Option (
       same None = refl
       same (Some l) = refl
 
-  module _ (j : ℕ) (front : List A) (t : Listed j front) where
-    pub listed_all : more_at tb end j ≡ false → fs vs ≡ Some front
-    listed_all m = t.so ∙ ap (prepend front) (ap fs (no_item t.inside m) ∙ empty) ∙ ap Some (append-nil front)
+module _ {A : Type 0} {fs : TokenTrees → Option (List A)} {s tb : List ℕ} {end : ℕ} {vs : TokenTrees} {cl : List Slice} {j : ℕ} {front : List A} (t : Listed fs s tb end vs cl j front) where
+  pub listed_all : false ≡ more_at tb end j → fs no_trees ≡ Some [] → fs vs ≡ Some front
+  listed_all m empty = t.so ∙ ap (prepend front) (ap fs (no_item t.inside (sym m)) ∙ empty) ∙ ap Some (append-nil front)
 
-    module _ (m : more_at tb end j ≡ true) where
-      abbrev e : Item s tb end j t.left cl
-      e = item t.inside m
+  module _ (m : true ≡ more_at tb end j) where
+    abbrev e : Item s tb end j t.left cl
+    e = item t.inside (sym m)
 
-      pub listed_tree : SomeTree s tb end j
-      listed_tree = (e.first, e.here.at)
+    pub listed_tree : SomeTree s tb end j
+    listed_tree = (e.first, e.here.at)
 
+    module _ (f : TokenTree → Option A) (first : (t : TokenTree) (ts : TokenTrees) → fs (t ∷ᵗ ts) ≡ both (λ x l. x ∷ l) (f t) (fs ts)) where
       so_far : fs vs ≡ prepend front (both (λ x l. x ∷ l) (f e.first) (fs e.rest))
       so_far = t.so ∙ ap (prepend front) (ap fs e.is ∙ first e.first e.rest)
 
-      pub listed_next : (r : ℕ) → NextAt tb end j r → (a : A) → ((u : TokenTree) → TreeAt s tb end j u → f u ≡ Some a) → Listed r (front ++ (a ∷ []))
+      pub listed_next : (r : ℕ) → NextAt tb end j r → (a : A) → ((u : TokenTree) → TreeAt s tb end j u → f u ≡ Some a) → Listed fs s tb end vs cl r (front ++ (a ∷ []))
       listed_next r n a h =
           record {
             left = e.rest;

@@ -1,12 +1,11 @@
 -- Lists of path numbers, and what answers gain.
-use Rattle.std.proofs.Common.{Option, None, Some, ◌≡◌, refl, sym, ap, ap₂, ◌∙◌, subst, Bool, true, false, ◌&&◌, ◌||◌, cond, List, [], ◌∷◌, ◌++◌, ℕ, zero, suc, ◌≤◌, ◌<◌, arith, length, get_or, set, take, length-append, get_or-set_same, get_or-set_other, take-suc, eqb, eq-eqb, ne_eqb}
+use Rattle.std.proofs.Common.{Option, None, Some, ◌≡◌, refl, sym, ap, ap₂, ◌∙◌, subst, Bool, true, false, ◌&&◌, ◌||◌, cond, List, [], ◌∷◌, ◌++◌, ℕ, zero, suc, ◌≤◌, ◌<◌, arith, length, get_or, set, take, length-append, get_or-set_same, get_or-set_other, take-suc, eqb, eq-eqb, ne_eqb, filter}
 use Rattle.std.proofs.Math.Dec.{eqb-suc-zero}
 use Rattle.std.proofs.Math.Decide.{dec_lt}
 use Rattle.eon_spec.specs.Base.{elem}
 use Rattle.eon_laws.proofs.Facts.{clash, eq_of, eqb_same, elem_append, or_left, or_right}
 use Rattle.eon_lookup.specs.Keys.{below}
 use Rattle.std.specs.Option.{option_or}
-use Rattle.std.specs.List.{filter}
 use Rattle.eon_lookup.specs.Live.{answer_of, answered, Gains, among}
 
 -- ---- members

@@ -1,5 +1,5 @@
 -- The walk through a map's pairs: what each pair gives the paths, and the steps it takes.
-use Rattle.std.proofs.Common.{Option, None, Some, ◌≡◌, refl, sym, ap, ap₂, ◌∙◌, Bool, true, false, ◌&&◌, not, cond, List, [], ◌∷◌, ◌++◌, ℕ, suc, ◌+◌, ◌-◌, ◌≤◌, ◌<◌, arith, length, get_or, ltb, eqb}
+use Rattle.std.proofs.Common.{Option, None, Some, ◌≡◌, refl, sym, ap, ap₂, ◌∙◌, Bool, true, false, ◌&&◌, not, cond, List, [], ◌∷◌, ◌++◌, ℕ, suc, ◌+◌, ◌-◌, ◌≤◌, ◌<◌, arith, length, get_or, ltb, eqb, filter}
 use Rattle.eon_spec.specs.Base.{elem}
 use Rattle.eon_spec.specs.Tree.{Slice, TokenTree, TokenValue, KeyValues, tree, identifier, number, quoted_string, list_of, map_of, variant_of, no_pairs, pair}
 use Rattle.eon_spec.specs.Layout.{prefix_of}
@@ -13,7 +13,6 @@ use Rattle.eon_table.proofs.Here.{leaf_text}
 use Rattle.eon_lookup.specs.declared.paths.Keys.{Keys}
 use Rattle.eon_lookup.specs.Keys.{no_keys, many, key_kind, key_here, key_at, keys_from, rest_at, rests, GoesOn, Going}
 use Rattle.std.specs.Option.{option_or}
-use Rattle.std.specs.List.{filter}
 use Rattle.eon_lookup.specs.Live.{first_some, Gains, among, first_in, matches, ends_at, goes_on, Walked}
 use Rattle.eon_lookup.proofs.Lists.{neither, elem_keep, gains_nothing}
 

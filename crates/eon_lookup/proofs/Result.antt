@@ -1,7 +1,7 @@
 -- What the walk's answers are as the call hands them back, and the order of the refusals.
 use Rattle.std.proofs.Common.{Option, None, Some, Result, Ok, Err, ◌≡◌, refl, sym, ap, ap₂, ◌∙◌, subst, Bool, true, false, cond, List, [], ◌∷◌, ◌++◌, ℕ, zero, suc, ◌+◌, ◌-◌, ◌≤◌, ◌<◌, arith, length, get_or, replicate, length-append, get_or-append-add, eqb}
-use Rattle.std.proofs.lemmas.List.{length-map}
-use Rattle.std.proofs.Math.ListN.{length-replicate, get_or-append}
+use Rattle.std.proofs.lemmas.List.{length-map, length-replicate}
+use Rattle.std.proofs.Math.ListN.{get_or-append}
 use Rattle.std.proofs.Math.Decide.{dec_lt}
 use Rattle.eon_spec.specs.Base.{elem}
 use Rattle.eon_spec.specs.Tree.{TokenTree}
@@ -20,20 +20,14 @@ use Rattle.eon_lookup.proofs.Lists.{below_length, in_below, all_below}
 
 -- ---- a word that is the first of the values reached is some of them
 
-some_inj : (a b : ℕ) → Some a ≡ Some b → a ≡ b
-some_inj a b e = cc
-
-some_none : {A : Type 0} (a : ℕ) → ◌≡◌ {A = Option ℕ} (Some a) None → A
-some_none a e = absurd (let z : ◌≡◌ {A = ℕ} 0 1 = cc in omega arith)
-
 word_some : (ns : List ℕ) (w : ℕ) → answer_of w ≡ first_some ns → SomeOf ns w
 word_some ns w e = go ns (eqb w none_word) refl e
   where
     go : (ns : List ℕ) (b : Bool) → eqb w none_word ≡ b → cond b None (Some w) ≡ first_some ns → SomeOf ns w
     go [] true p e = eq_of w none_word p
-    go [] false p e = some_none w e
-    go (n ∷ ns) true p e = some_none n (sym e)
-    go (n ∷ ns) false p e = let z : w ≡ n = some_inj w n e in rw z (rw (eqb_same n))
+    go [] false p e = cc
+    go (n ∷ ns) true p e = cc
+    go (n ∷ ns) false p e = let z : w ≡ n = cc in rw z (rw (eqb_same n))
 
 each_some : (es : List (List ℕ)) (ws : List ℕ) → length es ≡ length ws → ((p : ℕ) → p < length es → SomeOf (get_or es p []) (get_or ws p 0)) → SomeOfEach es ws
 each_some [] [] l h = tt

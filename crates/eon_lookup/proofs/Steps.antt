@@ -1,6 +1,7 @@
 -- The steps are no more than the records, and they are those of the sentence: the root and, in each map that a proper front of some path
 -- reaches, every key and value, each once.
 use Rattle.std.proofs.Common.{◌≡◌, refl, sym, ◌∙◌, ap, ap₂, Bool, true, false, ◌&&◌, ◌||◌, List, [], ◌∷◌, ◌++◌, ℕ, suc, ◌+◌, ◌≤◌, ◌<◌, arith, length, length-append, eqb}
+use Rattle.std.proofs.Math.Bool.{or_assoc}
 use Rattle.eon_spec.specs.Base.{elem}
 use Rattle.eon_spec.specs.Tree.{Slice, TokenTree, TokenValue, KeyValues, tree, identifier, number, quoted_string, list_of, map_of, variant_of, no_pairs, pair}
 use Rattle.eon_spec.specs.Records.{tree_records}
@@ -173,6 +174,12 @@ elem_if : (j : ℕ) (b : Bool) (ns : List ℕ) → elem j (list_if b ns) ≡ b &
 elem_if j true ns = refl
 elem_if j false ns = refl
 
+or_swap : (p q r s : Bool) → (p || q) || (r || s) ≡ (p || r) || (q || s)
+or_swap true q r s = refl
+or_swap false true true s = refl
+or_swap false true false s = refl
+or_swap false false r s = refl
+
 front_none : (p : Path) → some_front (λ f. false) p ≡ false
 front_none [] = refl
 front_none (k ∷ ks) = front_none ks
@@ -181,14 +188,7 @@ front_or : (a b : Path → Bool) (p : Path) → some_front (λ f. a f || b f) p 
 front_or a b [] = refl
 front_or a b (k ∷ ks) =
     ap (λ (x : Bool). (a [] || b []) || x) (front_or (λ f. a (k ∷ f)) (λ f. b (k ∷ f)) ks)
-    ∙ four (a []) (b []) (some_front (λ f. a (k ∷ f)) ks) (some_front (λ f. b (k ∷ f)) ks)
-  where
-    four : (p q r s : Bool) → (p || q) || (r || s) ≡ (p || r) || (q || s)
-    four true q r s = refl
-    four false true true s = refl
-    four false true false s = refl
-    four false false true s = refl
-    four false false false s = refl
+    ∙ or_swap (a []) (b []) (some_front (λ f. a (k ∷ f)) ks) (some_front (λ f. b (k ∷ f)) ks)
 
 front_and : (c : Bool) (a : Path → Bool) (p : Path) → some_front (λ f. c && a f) p ≡ c && some_front a p
 front_and true a p = refl
@@ -232,23 +232,10 @@ one_pair j n key v kvs ((k ∷ ks) ∷ ps) =
     on : Bool
     on = some_path (goes_on j (n + count key + count v) kvs) ps
 
-    swap : (h t d o : Bool) → (h || t) || (d || o) ≡ (h || d) || (t || o)
-    swap true t d o = refl
-    swap false true true o = refl
-    swap false true false o = refl
-    swap false false true o = refl
-    swap false false false o = refl
-
-    pass : (t d o : Bool) → t || (d || o) ≡ d || (t || o)
-    pass true true o = refl
-    pass true false o = refl
-    pass false true o = refl
-    pass false false o = refl
-
     go : (b : Bool) → is_key k (key_of key) ≡ b → rest ≡ down || on
         → ((is_key k (key_of key) && here) || there) || rest ≡ some_path (some_front (inside j (n + count key) v)) (onward (key_of key) ((k ∷ ks) ∷ ps)) || (there || on)
-    go true e h = rw e (ap (λ (x : Bool). (here || there) || x) h ∙ swap here there down on)
-    go false e h = rw e (ap (λ (x : Bool). there || x) h ∙ pass there down on)
+    go true e h = rw e (ap (λ (x : Bool). (here || there) || x) h ∙ or_swap here there down on)
+    go false e h = rw e (ap (λ (x : Bool). there || x) h ∙ or_swap false there down on)
 
 none_goes : (j n : ℕ) (kvs : KeyValues) (ps : List Path) → some_left ps ≡ false → some_path (goes_on j n kvs) ps ≡ false
 none_goes j n kvs [] e = refl
@@ -281,15 +268,6 @@ nothing : (ps : List Path) → some_path (some_front (λ f. false)) ps ≡ false
 nothing [] = refl
 nothing (p ∷ ps) = ap (λ (x : Bool). x || some_path (some_front (λ f. false)) ps) (front_none p) ∙ nothing ps
 
--- the pieces of a pair
-pieces : (k v d m o : Bool) → k || ((v || d) || (m || o)) ≡ (k || (v || m)) || (d || o)
-pieces true v d m o = refl
-pieces false true d m o = refl
-pieces false false true true o = refl
-pieces false false true false o = refl
-pieces false false false true o = refl
-pieces false false false false o = refl
-
 mutual
   unfolding walked inside
 
@@ -311,7 +289,8 @@ mutual
       let m : ℕ = n + count k + count v in
       ap (λ (b : Bool). eqb j (own n k) || b)
       (elem_append j (walked (n + count k) v (onward (key_of k) ps)) (walked_in m kvs ps) ∙ ap₂ ◌||◌ (tree_met v j (n + count k) (onward (key_of k) ps)) (pairs_met kvs j m ps))
-      ∙ pieces (eqb j (own n k)) (eqb j (own (n + count k) v)) (some_path (some_front (inside j (n + count k) v)) (onward (key_of k) ps)) (is_member j m kvs) (some_path (goes_on j m kvs) ps)
+      ∙ ap (λ (b : Bool). eqb j (own n k) || b) (or_swap (eqb j (own (n + count k) v)) (some_path (some_front (inside j (n + count k) v)) (onward (key_of k) ps)) (is_member j m kvs) (some_path (goes_on j m kvs) ps))
+      ∙ sym (or_assoc (eqb j (own n k)) (eqb j (own (n + count k) v) || is_member j m kvs) (some_path (some_front (inside j (n + count k) v)) (onward (key_of k) ps) || some_path (goes_on j m kvs) ps))
       ∙ ap (λ (b : Bool). is_member j n (pair k v kvs) || b) (sym (one_pair j n k v kvs ps))
 
 -- the numbers of the steps: in table order, so each once; as many as the steps; and those of the sentence

@@ -1,5 +1,5 @@
 -- On the way through a map's pairs: what is left, what was counted, and what the paths have.
-use Rattle.std.proofs.Common.{Option, None, ◌≡◌, refl, sym, ap, ◌∙◌, subst, true, false, cond, List, ℕ, suc, ◌+◌, ◌≤◌, ◌<◌, arith, length, get_or}
+use Rattle.std.proofs.Common.{Option, None, ◌≡◌, refl, sym, ap, ◌∙◌, subst, true, false, cond, List, ℕ, suc, ◌+◌, ◌≤◌, ◌<◌, arith, length, get_or, filter}
 use Rattle.eon_spec.specs.Base.{elem}
 use Rattle.eon_spec.specs.Tree.{Slice, TokenTree, TokenValue, KeyValues, tree, no_pairs, pair}
 use Rattle.eon_spec.specs.Layout.{prefix_of}
@@ -13,7 +13,6 @@ use Rattle.eon_table.proofs.Here.{Entry, entry, no_entry}
 use Rattle.eon_lookup.specs.declared.paths.Keys.{Keys}
 use Rattle.eon_lookup.specs.Keys.{key_here, rest_at, rests, Going}
 use Rattle.std.specs.Option.{option_or}
-use Rattle.std.specs.List.{filter}
 use Rattle.eon_lookup.specs.Live.{answer_of, Gains, among, first_in, ends_at, goes_on, KeyMatched, Walked}
 use Rattle.eon_lookup.proofs.Lists.{neither, option_or_assoc, option_or_none, gains_then}
 use Rattle.eon_lookup.proofs.Pairs.{key_here_lem, steps_tree, no_first, inside_first, Inner, pair_gives}
@@ -68,7 +67,7 @@ module _ (s tb : List ℕ) (end : ℕ) (q : List ℕ) (paths : List Keys) (d : �
       }
 
 -- a turn of the loop
-module _ {s tb : List ℕ} {end : ℕ} {q : List ℕ} {paths : List Keys} {d : ℕ} {live : List ℕ} {kvs : KeyValues} {cl : List Slice} {base : ℕ} {old answers : List ℕ} {j n : ℕ} (t : Through s tb end q paths d live kvs cl base old answers j n) (m : more_at tb end j ≡ true) where
+module _ {s tb : List ℕ} {end : ℕ} {q : List ℕ} {paths : List Keys} {d : ℕ} {live : List ℕ} {kvs : KeyValues} {cl : List Slice} {base : ℕ} {old answers : List ℕ} {j n : ℕ} (t : Through s tb end q paths d live kvs cl base old answers j n) (m : true ≡ more_at tb end j) where
   abbrev qs : List Path
   qs = rests q paths d live
 
@@ -76,7 +75,7 @@ module _ {s tb : List ℕ} {end : ℕ} {q : List ℕ} {paths : List Keys} {d : �
   given = gives s tb end q paths d live
 
   abbrev e : Entry s tb end j t.left cl
-  e = entry t.inside m
+  e = entry t.inside (sym m)
 
   pub key_there : SomeTree s tb end j
   key_there = (e.key, e.here.at)

@@ -1,5 +1,5 @@
 -- KeyMatched a key of the event: the turns over the paths.
-use Rattle.std.proofs.Common.{append-nil, Option, None, Some, ◌≡◌, refl, sym, ap, ap₂, ◌∙◌, subst, Bool, true, false, ◌&&◌, not, cond, List, [], ◌∷◌, ◌++◌, ℕ, ◌+◌, ◌≤◌, ◌<◌, arith, add-one, length, get_or, take, set, length-set, take-suc, take_all, take-suc-set, ltb, eqb, lt-ltb, le-ltb}
+use Rattle.std.proofs.Common.{append-nil, Option, None, Some, ◌≡◌, refl, sym, ap, ap₂, ◌∙◌, subst, Bool, true, false, ◌&&◌, not, cond, List, [], ◌∷◌, ◌++◌, ℕ, ◌+◌, ◌≤◌, ◌<◌, arith, add-one, length, get_or, take, set, length-set, take-suc, take_all, take-suc-set, ltb, eqb, lt-ltb, le-ltb, filter}
 use Rattle.std.proofs.lemmas.List.Elements.{filter-append}
 use Rattle.eon_spec.specs.Base.{elem, eq_list}
 use Rattle.eon_spec.specs.Calls.{record_text}
@@ -7,7 +7,6 @@ use Rattle.eon_spec.specs.Lookup.{Key, is_key}
 use Rattle.eon_table.specs.Words.{word, record_of}
 use Rattle.eon_lookup.specs.declared.paths.Keys.{Keys}
 use Rattle.eon_lookup.specs.Keys.{many, key_kind, key_here, key_at, GoesOn, Going}
-use Rattle.std.specs.List.{filter}
 use Rattle.eon_lookup.specs.Live.{answered, Gains, among, matches, ends_at, goes_on, KeyMatched}
 use Rattle.eon_lookup.proofs.Lists.{neither, elem_at, gains_nothing, gains_then, gave, among_more}
 

@@ -1,6 +1,6 @@
 -- What is written on one line.
 use Rattle.std.proofs.Common.{None, Some, ◌≡◌, refl, sym, ap, ◌∙◌, subst, Bool, true, false, ◌&&◌, cond, List, [], ◌∷◌, ◌++◌, append_assoc, append-nil, ℕ, ◌+◌, ◌-◌, ◌≤◌, ◌<◌, arith, length, lt-ltb, le-ltb}
-use native.Mathlib.Decide.{dec_le}
+use Rattle.std.proofs.Math.Decide.{dec_le}
 use Rattle.eon_spec.specs.Base.{codes}
 use Rattle.eon_spec.specs.Tree.{Slice, TokenTree, TokenValue, TokenTrees, KeyValues, tree, identifier, number, quoted_string, list_of, map_of, variant_of, no_trees, ◌∷ᵗ◌, no_pairs, pair}
 use Rattle.eon_spec.specs.Layout.{Settings, is_empty, no_values, no_key_values, is_simple, all_trees, values_on_one_line, on_one_line, value, bare_value, one_line}

@@ -1,6 +1,7 @@
 -- From the table's words to the trees that it holds.
 use Rattle.std.proofs.Common.{None, Some, ◌≡◌, refl, sym, ap, ◌∙◌, subst, Bool, true, false, ◌&&◌, ◌||◌, not, cond, List, [], ◌∷◌, ℕ, suc, ◌+◌, ◌-◌, ◌≤◌, ◌<◌, arith, add-zero, zero-add, add_assoc, length, ltb, leb, eqb, le-leb, eq-eqb, ne_eqb}
-use native.Mathlib.Decide.{dec_le}
+use Rattle.std.proofs.Math.Bool.{and-true, and-false}
+use Rattle.std.proofs.Math.Decide.{dec_le}
 use Rattle.std.proofs.lemmas.Bool.{lt-leb}
 use Rattle.eon_spec.specs.Base.{elem}
 use Rattle.eon_spec.specs.Tree.{Slice, TokenTree, TokenValue, TokenTrees, KeyValues, tree, identifier, number, quoted_string, list_of, map_of, variant_of, no_trees, ◌∷ᵗ◌, no_pairs, pair}
@@ -77,14 +78,6 @@ module _ (s tb : List ℕ) where
     simple_law (tree sp [] v (Some c)) h = with_suffix_lem v (bare_value_lem s tb end i sp v (Some c) h) (bare_suffix s tb end i sp v (Some c) h).0
 
 -- ---- should_format_values_on_one_line
-
-and_true : (a : Bool) → (a && true) ≡ a
-and_true true = refl
-and_true false = refl
-
-and-false : (a : Bool) → (a && false) ≡ false
-and-false true = refl
-and-false false = refl
 
 numbers_on : (n b m : Bool) → (cond n b false && m) ≡ (b && (n && m))
 numbers_on true b m = refl
@@ -198,7 +191,7 @@ module _ (s tb : List ℕ) where
     line_law no_trees [] b w i h =
         let e : end ≡ i + 0 = inside_end s tb end i [] h in
         line_end_lem s tb end b w i (omega arith)
-        ∙ ap (λ (z : Bool). cond z true (ltb w 60)) (sym (and_true b))
+        ∙ ap (λ (z : Bool). cond z true (ltb w 60)) (sym (and-true b))
         ∙ ap (λ (z : ℕ). cond (b && true) true (ltb z 60)) (sym (add-zero w))
     line_law no_trees (c ∷ cs) b w i h =
         let e : end ≡ i + suc (length cs) = inside_end s tb end i (c ∷ cs) h in

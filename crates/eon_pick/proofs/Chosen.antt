@@ -1,7 +1,6 @@
 -- The nearest byte, record by record, and the call with it.
-use Rattle.std.proofs.Common.{Option, None, Some, ◌≡◌, refl, sym, ap, ◌∙◌, List, [], ◌∷◌, ◌++◌, append-nil, append_assoc, ℕ, zero, suc, ◌+◌, add-one}
-use Rattle.std.specs.List.{fold, range_with_len}
-use Rattle.std.specs.Option.{ok_or}
+use Rattle.std.proofs.Common.{Option, None, Some, ◌≡◌, refl, sym, ap, ◌∙◌, List, [], ◌∷◌, ◌++◌, append-nil, append_assoc, ℕ, zero, suc, ◌+◌, add-one, fold, ok_or}
+use Rattle.std.specs.List.{range_with_len}
 use Rattle.eon_spec.specs.Records.{Record, tree_records}
 use Rattle.eon_spec.specs.declared.refusal.Refusal.{Refusal}
 use Rattle.eon_spec.specs.Refused.{refusal_of}

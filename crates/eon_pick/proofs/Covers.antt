@@ -1,5 +1,6 @@
 -- Which bytes the records of a text cover: no byte beyond the text, and one at least where the text has one. So 27 is for the empty text.
-use Rattle.std.proofs.Common.{Option, None, Some, ◌≡◌, refl, ◌∙◌, ap, subst, Bool, true, false, ◌||◌, List, [], ◌∷◌, ◌++◌, ℕ, suc, ◌<◌, arith, length}
+use Rattle.std.proofs.Common.{Option, None, Some, ◌≡◌, refl, ◌∙◌, ap, subst, Bool, true, false, ◌||◌, List, [], ◌∷◌, ◌++◌, ℕ, suc, ◌<◌, arith, length, ⊎_elim}
+use Rattle.std.proofs.lemmas.Bool.{or_cases}
 use Rattle.std.proofs.lemmas.List.Folds.{list_any-append}
 use Rattle.eon_spec.specs.Utf8.{is_utf8}
 use Rattle.eon_spec.specs.RecordKind.{IDENTIFIER, NUMBER, STRING, LIST, MAP, VARIANT, PREFIX_COMMENT, CLOSING_COMMENT}
@@ -10,13 +11,13 @@ use Rattle.eon_spec.specs.Pick.{holds_byte, picked}
 use Rattle.eon_laws.proofs.Facts.{clash, or_left}
 use Rattle.eon_laws.proofs.Spans.{HasByte, tree_fits, tree_has_byte}
 use Rattle.eon_table.proofs.Spans.{AllSpanned, tree_spanned}
-use Rattle.eon_pick.proofs.Nearest.{covered, or_cases, held, holds_of, Answered, picked_is}
+use Rattle.eon_pick.proofs.Nearest.{covered, held, holds_of, Answered, picked_is}
 
 -- ---- no byte beyond the text
 
 within : (s : List ℕ) (b : ℕ) (rs : List Record) → AllSpanned s rs → covered b rs ≡ true → b < length s
 within s b [] h e = clash e refl
-within s b (r ∷ rs) h e = or_cases (holds_byte b r) (covered b rs) e (λ k. omega (arith, (held b r k).1, h.0.within)) (within s b rs h.1)
+within s b (r ∷ rs) h e = ⊎_elim (λ k. omega (arith, (held b r k).1, h.0.within)) (within s b rs h.1) (or_cases (holds_byte b r) (covered b rs) e)
 
 -- ---- a byte of the tree's own record
 

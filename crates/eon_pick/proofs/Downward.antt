@@ -1,6 +1,5 @@
 -- The walk over the first n records from the last one down: the first that holds the byte is the highest.
-use Rattle.std.proofs.Common.{Option, None, Some, ◌≡◌, refl, sym, ap, subst, ◌∙◌, Bool, true, false, cond, List, [], ◌∷◌, ◌++◌, length, ℕ, zero, suc, ◌+◌, ◌-◌, add-zero, suc-add, add-suc, add-one, arith}
-use Rattle.std.specs.List.{find}
+use Rattle.std.proofs.Common.{Option, None, Some, ◌≡◌, refl, sym, ap, subst, ◌∙◌, Bool, true, false, cond, List, [], ◌∷◌, ◌++◌, length, ℕ, zero, suc, ◌+◌, ◌-◌, add-zero, suc-add, add-suc, add-one, arith, find}
 use Rattle.std.specs.declared.iter.Rev.{Rev}
 use Rattle.std.specs.declared.ops.Range.{Range}
 use Rattle.std.specs.Iterator.Adapters.{rev_steps}

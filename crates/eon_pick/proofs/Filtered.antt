@@ -61,10 +61,10 @@ module _ (from to : ℕ) where
 
   this_one : (b : Bool) (h : Hit) (hs : List Hit) → b ≡ true → OneOf h (hit_then b h hs)
   this_one true h hs e = inl refl
-  this_one false h hs e = absurd (let z : ◌≡◌ {A = ℕ} 0 1 = cc in omega arith)
+  this_one false h hs e = cc
 
   pub record_is_hit : (n : ℕ) (rs : List Record) (k : ℕ) (q : Record) → nth rs k ≡ Some q → shares_byte from to q ≡ true → OneOf (hit_of (n + k) q) (hits from to n rs)
-  record_is_hit n [] k q e s = absurd (let z : ◌≡◌ {A = ℕ} 0 1 = cc in omega arith)
+  record_is_hit n [] k q e s = cc
   record_is_hit n (r ∷ rs) zero q e s = first (let z : r ≡ q = cc in z) (let z : n ≡ n + 0 = omega arith in z)
     where
       first : {m : ℕ} → r ≡ q → n ≡ m → OneOf (hit_of m q) (hits from to n (r ∷ rs))

@@ -1,9 +1,9 @@
 -- Laws of the hits: which numbers, how many, what a store at their end leaves, and the call.
-use Rattle.std.proofs.Common.{◌≡◌, refl, sym, ap, ◌∙◌, Bool, true, false, cond, List, [], ◌∷◌, ◌++◌, map, length, get_or, set, ℕ, zero, suc, ◌+◌, ◌≤◌, ◌<◌, zero-add, add-one, arith}
-use Rattle.std.specs.List.{filter, range_with_len, enumerate_from}
+use Rattle.std.proofs.Common.{◌≡◌, refl, sym, ap, ◌∙◌, Bool, true, false, cond, List, [], ◌∷◌, ◌++◌, map, length, get_or, set, ℕ, zero, suc, ◌+◌, ◌≤◌, ◌<◌, zero-add, add-one, arith, filter, le-leb}
+use Rattle.std.specs.List.{range_with_len, enumerate_from}
 use Rattle.std.proofs.lemmas.List.{map-append, length-map}
 use Rattle.std.proofs.lemmas.List.FromFn.{length-enumerate_from, get_or-enumerate_from}
-use Rattle.std.proofs.lemmas.Bool.{le-leb, lt-leb}
+use Rattle.std.proofs.lemmas.Bool.{lt-leb}
 use Rattle.eon_spec.specs.declared.Hit.{Hit}
 use Rattle.eon_spec.specs.Records.{Record, tree_records}
 use Rattle.eon_spec.specs.Calls.{done, refused_with, nowhere, after, written, fill}

@@ -1,8 +1,8 @@
 -- The place picked: the byte is covered and no covered byte wins over it, so none is nearer and of those as near none is earlier; the record
 -- holds it, and none behind it does.
-use Rattle.std.proofs.Common.{Option, None, Some, ◌≡◌, refl, sym, ◌∙◌, ap, subst, Bool, true, false, ◌&&◌, ◌||◌, cond, List, [], ◌∷◌, ◌++◌, ℕ, zero, suc, pred, ◌+◌, ◌-◌, min, max, ◌≤◌, ◌<◌, arith, ltb, leb, eqb, le-leb, lt-ltb, eq-eqb}
+use Rattle.std.proofs.Common.{Option, None, Some, ◌≡◌, refl, sym, ◌∙◌, ap, subst, Bool, true, false, ◌&&◌, cond, List, [], ◌∷◌, ◌++◌, ℕ, zero, suc, pred, ◌+◌, ◌-◌, min, max, ◌≤◌, ◌<◌, arith, ltb, leb, eqb, ⊎_elim, le_trans, lt_trans, le_of_lt, lt_of_lt_of_le, not-le_of_lt, le-leb, lt-ltb, eq-eqb}
 use Rattle.std.specs.List.{list_any}
-use Rattle.std.proofs.lemmas.Bool.{or_from}
+use Rattle.std.proofs.lemmas.Bool.{and_from, or_cases, or_from, true_from_ne_false}
 use Rattle.eon_spec.specs.Records.{Record}
 use Rattle.eon_laws.proofs.Facts.{clash, and_left, and_right, or_left, or_right, nor_left, nor_right, false_of, le_of, lt_of, eq_of, le_of_not}
 use Rattle.eon_spec.specs.Pick.{holds_byte, distance, nearest_in, prefers, wins, nearer, nearest, or_this, highest, picked_by, picked}
@@ -28,15 +28,12 @@ preferred o b a e f = omega (arith, lt_of b a f)
 not_preferred : (o b a : ℕ) → distance o b ≡ distance o a → prefers b a ≡ false → rank o a ≤ rank o b
 not_preferred o b a e f = omega (arith, le_of_not b a f)
 
-pub or_cases : (x y : Bool) {A : Type 0} → x || y ≡ true → (x ≡ true → A) → (y ≡ true → A) → A
-or_cases true y e f g = f refl
-or_cases false y e f g = g e
-
 wins_less : (o b a : ℕ) → wins o b a ≡ true → rank o b < rank o a
 wins_less o b a e =
     let d : Bool = eqb (distance o b) (distance o a) in
-    or_cases (ltb (distance o b) (distance o a)) (d && prefers b a) e (λ f. omega (arith, lt_of (distance o b) (distance o a) f)) λ f.
-    preferred o b a (eq_of (distance o b) (distance o a) (and_left d (prefers b a) f)) (and_right d (prefers b a) f)
+    ⊎_elim (λ f. omega (arith, lt_of (distance o b) (distance o a) f))
+    (λ f. preferred o b a (eq_of (distance o b) (distance o a) (and_left d (prefers b a) f)) (and_right d (prefers b a) f))
+    (or_cases (ltb (distance o b) (distance o a)) (d && prefers b a) e)
 
 apart : (m n : ℕ) → m ≤ n → (m ≡ n → ⊥) → m < n
 apart m n h f = omega arith
@@ -63,10 +60,7 @@ pub held : (b : ℕ) (r : Record) → holds_byte b r ≡ true → (r.start ≤ b
 held b r e = (le_of r.start b (and_left (leb r.start b) (ltb b r.end) e), lt_of b r.end (and_right (leb r.start b) (ltb b r.end) e))
 
 pub holds_of : (b : ℕ) (r : Record) → r.start ≤ b → b < r.end → holds_byte b r ≡ true
-holds_of b r g h = both_true (leb r.start b) (ltb b r.end) (le-leb r.start b g) (lt-ltb b r.end h)
-  where
-    both_true : (x y : Bool) → x ≡ true → y ≡ true → x && y ≡ true
-    both_true x y p q = rw (p, q)
+holds_of b r g h = and_from (leb r.start b) (ltb b r.end) (le-leb r.start b g) (lt-ltb b r.end h)
 
 rank_before : (o b : ℕ) → b < o → rank o b ≡ (o - b) + (o - b)
 rank_before o b h = omega arith
@@ -106,7 +100,7 @@ nearest_in_lem o r b c e h = go (ltb r.start r.end) refl e (held c r h)
     go true p e h =
         let k : max r.start (min o (pred r.end)) ≡ b = let z : Some (max r.start (min o (pred r.end))) ≡ Some b = rw p at e in cc in
         rw (sym k) (clamp_least o c r.start r.end h.0 h.1)
-    go false p e h = absurd (let z : ◌≡◌ {A = Option ℕ} None (Some b) = rw p at e in let w : ◌≡◌ {A = ℕ} 0 1 = cc in omega arith)
+    go false p e h = let z : ◌≡◌ {A = Option ℕ} None (Some b) = rw p at e in cc
 
 nearest_held : (o : ℕ) (r : Record) (b : ℕ) → nearest_in o r ≡ Some b → holds_byte b r ≡ true
 nearest_held o r b e = go (ltb r.start r.end) refl e
@@ -116,13 +110,13 @@ nearest_held o r b e = go (ltb r.start r.end) refl e
         let k : max r.start (min o (pred r.end)) ≡ b = let z : Some (max r.start (min o (pred r.end))) ≡ Some b = rw p at e in cc in
         let w = clamp_within o r.start r.end (lt_of r.start r.end p) in
         subst (λ (x : ℕ). holds_byte x r ≡ true) k (holds_of (max r.start (min o (pred r.end))) r w.0 w.1)
-    go false p e = absurd (let z : ◌≡◌ {A = Option ℕ} None (Some b) = rw p at e in let w : ◌≡◌ {A = ℕ} 0 1 = cc in omega arith)
+    go false p e = let z : ◌≡◌ {A = Option ℕ} None (Some b) = rw p at e in cc
 
 nearest_empty : (o : ℕ) (r : Record) (c : ℕ) → nearest_in o r ≡ None → holds_byte c r ≡ false
 nearest_empty o r c e = false_of (holds_byte c r) λ h. go (ltb r.start r.end) refl e (held c r h)
   where
     go : (x : Bool) → ltb r.start r.end ≡ x → nearest_in o r ≡ None → (r.start ≤ c) × (c < r.end) → ⊥
-    go true p e h = let z : ◌≡◌ {A = Option ℕ} (Some (max r.start (min o (pred r.end)))) None = rw p at e in let w : ◌≡◌ {A = ℕ} 0 1 = cc in omega arith
+    go true p e h = let z : ◌≡◌ {A = Option ℕ} (Some (max r.start (min o (pred r.end)))) None = rw p at e in cc
     go false p e h = omega (arith, le_of_not r.start r.end p, h.0, h.1)
 
 -- the byte b is covered, and no covered byte wins over it
@@ -135,23 +129,17 @@ abbrev pub Found : ℕ → List Record → Option ℕ → Type 0
 Found o rs None = (c : ℕ) → covered c rs ≡ false
 Found o rs (Some b) = Nearest o b rs
 
-less_le : (x y z : ℕ) → x < y → y ≤ z → x ≤ z
-less_le x y z g h = omega arith
-
-le_le : (x y z : ℕ) → x ≤ y → y ≤ z → x ≤ z
-le_le x y z g h = omega arith
-
 nearer_found : (o : ℕ) (r : Record) (rs : List Record) (x y : Option ℕ) → nearest_in o r ≡ x → Found o rs y → Found o (r ∷ rs) (nearer o x y)
 nearer_found o r rs None None e f = λ c. or_from (holds_byte c r) (covered c rs) (nearest_empty o r c e) (f c)
 nearer_found o r rs None (Some b) e f =
     record {
       is_covered = or_right (holds_byte b r) (covered b rs) f.is_covered;
-      none_wins = λ c h. or_cases (holds_byte c r) (covered c rs) h (λ k. clash k (nearest_empty o r c e)) (f.none_wins c);
+      none_wins = λ c h. ⊎_elim (λ k. clash k (nearest_empty o r c e)) (f.none_wins c) (or_cases (holds_byte c r) (covered c rs) h);
     }
 nearer_found o r rs (Some a) None e f =
     record {
       is_covered = or_left (holds_byte a r) (covered a rs) (nearest_held o r a e);
-      none_wins = λ c h. or_cases (holds_byte c r) (covered c rs) h (λ k. more_loses o c a (nearest_in_lem o r a c e k)) (λ k. clash k (f c));
+      none_wins = λ c h. ⊎_elim (λ k. more_loses o c a (nearest_in_lem o r a c e k)) (λ k. clash k (f c)) (or_cases (holds_byte c r) (covered c rs) h);
     }
 nearer_found o r rs (Some a) (Some b) e f = go (wins o b a) refl
   where
@@ -159,13 +147,12 @@ nearer_found o r rs (Some a) (Some b) e f = go (wins o b a) refl
     go true p =
         record {
           is_covered = or_right (holds_byte b r) (covered b rs) f.is_covered;
-          none_wins = λ c h. or_cases (holds_byte c r) (covered c rs) h (λ k. more_loses o c b (less_le (rank o b) (rank o a) (rank o c) (wins_less o b a p) (nearest_in_lem o r a c e k))) (f.none_wins c);
+          none_wins = λ c h. ⊎_elim (λ k. more_loses o c b (le_of_lt (lt_of_lt_of_le (wins_less o b a p) (nearest_in_lem o r a c e k)))) (f.none_wins c) (or_cases (holds_byte c r) (covered c rs) h);
         }
     go false p =
         record {
           is_covered = or_left (holds_byte a r) (covered a rs) (nearest_held o r a e);
-          none_wins = λ c h. or_cases (holds_byte c r) (covered c rs) h (λ k. more_loses o c a (nearest_in_lem o r a c e k))
-              (λ k. more_loses o c a (le_le (rank o a) (rank o b) (rank o c) (loses_more o b a p) (loses_more o c b (f.none_wins c k))));
+          none_wins = λ c h. ⊎_elim (λ k. more_loses o c a (nearest_in_lem o r a c e k)) (λ k. more_loses o c a (le_trans (loses_more o b a p) (loses_more o c b (f.none_wins c k)))) (or_cases (holds_byte c r) (covered c rs) h);
         }
 
 -- "the nearest byte that a record covers"
@@ -187,7 +174,7 @@ tie_earlier o b c rs n h e =
 
 -- a record that holds the offset is preferred to any neighbour
 pub offset_held : (o b : ℕ) (rs : List Record) → covered o rs ≡ true → Nearest o b rs → b ≡ o
-offset_held o b rs h n = let l = loses_more o o b (n.none_wins o h) in sole o b (le_le (rank o b) (rank o o) 0 l (rank_here o 0))
+offset_held o b rs h n = let l = loses_more o o b (n.none_wins o h) in sole o b (le_trans l (rank_here o 0))
   where
     sole : (o b : ℕ) → rank o b ≤ 0 → b ≡ o
     sole o b h = omega arith
@@ -212,7 +199,7 @@ Top b n rs None = covered b rs ≡ false
 Top b n rs (Some m) = (k : ℕ) × (m ≡ n + k) × Highest b k rs
 
 uncovered : (b : ℕ) (rs : List Record) → covered b rs ≡ false → (j : ℕ) (q : Record) → nth rs j ≡ Some q → holds_byte b q ≡ false
-uncovered b [] h j q e = absurd (let z : ◌≡◌ {A = ℕ} 0 1 = cc in omega arith)
+uncovered b [] h j q e = cc
 uncovered b (r ∷ rs) h zero q e = let z : r ≡ q = cc in ap (holds_byte b) (sym z) ∙ nor_left (holds_byte b r) (covered b rs) h
 uncovered b (r ∷ rs) h (suc j) q e = uncovered b rs (nor_right (holds_byte b r) (covered b rs) h) j q e
 
@@ -264,22 +251,12 @@ picked_is o rs = go (nearest o rs) (nearest_found o rs)
 
 -- ---- record by record, as a loop goes
 
-less_not : (m n : ℕ) → m < n → n ≤ m → ⊥
-less_not m n g h = omega arith
-
 less_wins : (o b a : ℕ) → rank o b < rank o a → wins o b a ≡ true
-less_wins o b a h = go (wins o b a) refl
-  where
-    go : (x : Bool) → wins o b a ≡ x → x ≡ true
-    go true e = refl
-    go false e = absurd (less_not (rank o b) (rank o a) h (loses_more o b a e))
+less_wins o b a h = true_from_ne_false (wins o b a) λ e. not-le_of_lt h (loses_more o b a e)
 
 nearer_none : (o : ℕ) (x : Option ℕ) → nearer o x None ≡ x
 nearer_none o None = refl
 nearer_none o (Some a) = refl
-
-less_less : (m n k : ℕ) → m < n → n < k → m < k
-less_less m n k g h = omega arith
 
 nearer_assoc : (o : ℕ) (x y z : Option ℕ) → nearer o (nearer o x y) z ≡ nearer o x (nearer o y z)
 nearer_assoc o None y z = refl
@@ -288,10 +265,10 @@ nearer_assoc o (Some a) (Some b) None = nearer_none o (nearer o (Some a) (Some b
 nearer_assoc o (Some a) (Some b) (Some c) = go (wins o b a) (wins o c b) refl refl
   where
     go : (x y : Bool) → wins o b a ≡ x → wins o c b ≡ y → nearer o (cond x (Some b) (Some a)) (Some c) ≡ nearer o (Some a) (cond y (Some c) (Some b))
-    go true true p q = ap (λ (w : Bool). cond w (Some c) (Some b)) q ∙ sym (ap (λ (w : Bool). cond w (Some c) (Some a)) (less_wins o c a (less_less (rank o c) (rank o b) (rank o a) (wins_less o c b q) (wins_less o b a p))))
+    go true true p q = ap (λ (w : Bool). cond w (Some c) (Some b)) q ∙ sym (ap (λ (w : Bool). cond w (Some c) (Some a)) (less_wins o c a (lt_trans (wins_less o c b q) (wins_less o b a p))))
     go true false p q = ap (λ (w : Bool). cond w (Some c) (Some b)) q ∙ sym (ap (λ (w : Bool). cond w (Some b) (Some a)) p)
     go false true p q = refl
-    go false false p q = ap (λ (w : Bool). cond w (Some c) (Some a)) (more_loses o c a (le_le (rank o a) (rank o b) (rank o c) (loses_more o b a p) (loses_more o c b q))) ∙ sym (ap (λ (w : Bool). cond w (Some b) (Some a)) p)
+    go false false p q = ap (λ (w : Bool). cond w (Some c) (Some a)) (more_loses o c a (le_trans (loses_more o b a p) (loses_more o c b q))) ∙ sym (ap (λ (w : Bool). cond w (Some b) (Some a)) p)
 
 pub nearest_next : (o : ℕ) (rs : List Record) (r : Record) → nearest o (rs ++ (r ∷ [])) ≡ nearer o (nearest o rs) (nearest_in o r)
 nearest_next o [] r = nearer_none o (nearest_in o r)

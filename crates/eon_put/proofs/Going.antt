@@ -1,5 +1,5 @@
 -- A run of puts: what is done and what is left make the whole.
-use Rattle.std.proofs.Common.{◌≡◌, ℕ, refl, sym, ap, ◌∙◌, subst, List, [], ◌++◌, append_assoc, append-nil}
+use Rattle.std.proofs.Common.{◌≡◌, ℕ, sym, ap, ◌∙◌, subst, List, [], ◌++◌, append_assoc, append-nil}
 
 module _ {A : Type 0} (puts : A → List ℕ → A → Type 0) where
   -- `rest` is left of `total`
@@ -17,9 +17,6 @@ module _ {A : Type 0} (puts : A → List ℕ → A → Type 0) where
 
   abbrev pub Appends : Type 0
   Appends = (s t u : A) (b c : List ℕ) → puts s b t → puts t c u → puts s (b ++ c) u
-
-  pub going_from : {s t : A} {b rest : List ℕ} → puts s b t → Going s (b ++ rest) t rest
-  going_from {b = b} p = record { done = b; put = p; whole = refl }
 
   pub going_step : Appends → {s t u : A} {total x left rest : List ℕ} → Going s total t left → left ≡ x ++ rest → puts t x u → Going s total u rest
   going_step append {s} {t} {u} {x = x} {rest = rest} g e p = record {

@@ -1,9 +1,9 @@
 -- What a copy of the bytes that fit leaves.
-use Rattle.std.proofs.Common.{◌≡◌, refl, sym, ap, ◌∙◌, ℕ, ◌+◌, ◌-◌, ◌≤◌, min, List, ◌++◌, append_assoc, length, take, drop, take-append-drop, Option, Some, arith}
-use Rattle.std.proofs.lemmas.List.{drop_all, drop-drop, length-take}
+use Rattle.std.proofs.Common.{◌≡◌, refl, sym, ap, ◌∙◌, ℕ, ◌+◌, ◌-◌, ◌≤◌, min, List, ◌++◌, append_assoc, length, take, drop, take-append-drop, Option, Some, arith, drop-drop, length-take}
+use Rattle.std.proofs.lemmas.List.{drop_all}
 use Rattle.std.proofs.lemmas.List.Edits.{sets, sets-eq}
-use native.Mathlib.Decide.{dec_le}
-use lib.Seq.{length-sets}
+use Rattle.std.proofs.Math.Decide.{dec_le}
+use Rattle.std.proofs.Math.Seq.{length-sets}
 use Rattle.std.specs.Option.{ForSome}
 use Rattle.eon_put.specs.Put.{put_from}
 use Rattle.eon_put.specs.Stores.{sets_append, sets_past}

@@ -14,10 +14,8 @@ holds s tb end t e l = subst (λ (n : ℕ). TreeAt s tb n 0 t) (sym l) (read_fin
 
 pub lay_out-requires : goal.lay_out-requires
 lay_out-requires c = let q = c.requires.finished in
-    (q.0, holds c.args.sheet.text.now c.args.sheet.table.now c.args.end q.0 q.1 q.2)
+    (q.0, holds _ _ _ q.0 q.1 q.2)
 
 pub returns : goal.returns
 returns c = let q = c.requires.finished in
-    let s = c.args.sheet.text.now in
-    let tb = c.args.sheet.table.now in
-    c.lay_out.ensures q.0 (holds s tb c.args.end q.0 q.1 q.2) ∙ formatted s tb c.args.options.now c.args.out.now q.0 c.requires.settings q.1
+    c.lay_out.ensures q.0 (holds _ _ _ q.0 q.1 q.2) ∙ formatted _ _ _ _ q.0 c.requires.settings q.1

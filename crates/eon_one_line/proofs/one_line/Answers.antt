@@ -26,6 +26,4 @@ loop-j-preserved g c = let s = c.args.sheet.text.now in
     ]
 
 pub returns : goal.returns
-returns g c = let s = c.args.sheet.text.now in
-    let tb = c.args.sheet.table.now in
-    going_end g.S.Sink.puts c.loop-j.invariant (line_none s tb c.loop-j.j c.args.end (omega arith))
+returns g c = going_end g.S.Sink.puts c.loop-j.invariant (line_none _ _ _ c.args.end (omega arith))

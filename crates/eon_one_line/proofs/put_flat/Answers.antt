@@ -12,7 +12,7 @@ returns-then-is g c o n v h = let s = c.args.sheet.text.now in
     let i = c.args.i in
     put_as g.S.Sink.puts
     (ap (λ (x : ℕ). (91 ∷ []) ++ plain_line s tb (i + 1) (x - (i + 1)) ++ (93 ∷ [])) c.behind-end.ensures
-    ∙ flat_list s tb i o n v h (λ e. omega (arith, e, c.requires.something)) c.requires.flat (c.is.ensures.0 c.if-is.true))
+    ∙ flat_list _ _ _ o n v h (λ e. omega (arith, e, c.requires.something)) c.requires.flat (c.is.ensures.0 c.if-is.true))
     c.put_row.ensures
 
 pub returns-else-is : goal.returns-else-is
@@ -22,5 +22,5 @@ returns-else-is g c o n v h = let s = c.args.sheet.text.now in
     put_as g.S.Sink.puts
     (ap (λ (b : List ℕ). b ++ ((40 ∷ []) ++ plain_line s tb (i + 1) (c.behind-end.result - (i + 1)) ++ (41 ∷ []))) c.text_at.ensures
     ∙ ap (λ (x : ℕ). text_at s tb i ++ ((40 ∷ []) ++ plain_line s tb (i + 1) (x - (i + 1)) ++ (41 ∷ []))) c.behind-end.ensures
-    ∙ flat_variant s tb i o n v h (λ e. omega (arith, e, c.requires.something)) c.requires.flat (search rules))
+    ∙ flat_variant _ _ _ o n v h (λ e. omega (arith, e, c.requires.something)) c.requires.flat (search rules))
     (g.met.S.Sink.append _ _ _ _ _ c.put_all.ensures c.put_row-else-is.ensures)

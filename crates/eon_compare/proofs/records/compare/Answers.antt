@@ -1,5 +1,4 @@
-use Rattle.std.proofs.Common.{rules, ap, ◌∙◌}
-use Rattle.std.proofs.lemmas.Bool.{ne_eqb}
+use Rattle.std.proofs.Common.{rules, ap, ◌∙◌, ne_eqb}
 use Rattle.eon_spec.specs.Calls.{done}
 use Rattle.eon_table.proofs.Finished.{finished_done}
 use Rattle.eon_compare.proofs.Ranges.{counts_differ, ranges_say}

@@ -1,4 +1,4 @@
-use Rattle.std.proofs.Common.{Some, ◌≡◌, refl, sym, ap, ap₂, ◌∙◌, subst, length, length-set, ◌+◌, ◌<◌, arith}
+use Rattle.std.proofs.Common.{Some, ◌≡◌, refl, sym, ap, ap₂, ◌∙◌, subst, length, length-set, ◌<◌, arith}
 use Rattle.std.proofs.lemmas.Bool.{false≢true}
 use Rattle.eon_spec.specs.Base.{within}
 use Rattle.eon_spec.specs.Tree.{TokenValue}
@@ -22,7 +22,7 @@ returns-then-not-is c = let a = c.args in
 pub loop-list-init : goal.loop-list-init
 loop-list-init c = let a = c.args in
     let n = c.default-path.ensures in
-    (omega (arith, n.1), n.0.long, λ vs cl h. subst (Listed key_of keys_of refl (λ t ts. refl) a.list.text.now a.list.table.now c.behind-end.result vs cl (a.i + 1)) (sym (whole_none a.list.text.now c.default-path.result n.1)) (listed_start key_of keys_of refl (λ t ts. refl) a.list.text.now a.list.table.now c.behind-end.result vs cl (a.i + 1) (in_list a.i c.behind-end.ensures h)))
+    (omega (arith, n.1), n.0.long, λ vs cl h. subst (Listed keys_of _ _ _ vs cl _) (sym (whole_none _ c.default-path.result n.1)) (listed_start keys_of _ _ _ vs cl _ (in_list a.i c.behind-end.ensures h)))
 
 -- the list, in a turn or behind the last
 here : (t : In-loop-list) (v : TokenValue) (h : ValueAt t.args.list.text.now t.args.list.table.now t.args.i v) → TheList t.args.list.text.now t.args.list.table.now t.args.i t.behind-end.result t.behind-end.ensures v h
@@ -31,7 +31,7 @@ here t v h = the_list _ _ _ _ t.behind-end.ensures v h (t.if-not-is.ensures.0 re
 tree_here : (t : In-loop-list) (v : TokenValue) → ValueAt t.args.list.text.now t.args.list.table.now t.args.i v → SomeTree t.args.list.text.now t.args.list.table.now t.behind-end.result t.loop-list.j
 tree_here t v h =
     let z = here t v h in
-    listed_tree key_of keys_of refl (λ t ts. refl) _ _ _ _ _ _ _ (t.loop-list.invariant.2 z.items z.closing z.at) (sym t.loop-list-test.ensures)
+    listed_tree (t.loop-list.invariant.2 z.items z.closing z.at) t.loop-list-test.ensures
 
 pub returns-then-path-eq-KEYS_MAX : goal.returns-then-path-eq-KEYS_MAX
 returns-then-path-eq-KEYS_MAX c =
@@ -43,7 +43,7 @@ returns-then-path-eq-KEYS_MAX c =
       is = λ v h.
           let z = here (goal.at.returns-then-path-eq-KEYS_MAX c).In-loop-list v h in
           ap path_in z.is
-          ∙ listed_long key_of keys_of refl (λ t ts. refl) s c.args.list.table.now c.behind-end.result z.items z.closing l.j (whole s l.path) (l.invariant.2 z.items z.closing z.at) (sym c.loop-list-test.ensures) (λ ks. within 1 8 (length ks))
+          ∙ listed_long (l.invariant.2 z.items z.closing z.at) c.loop-list-test.ensures key_of (λ t ts. refl) (λ ks. within 1 8 (length ks))
           (λ ks f. nine_keys ks (omega (arith, f, full, whole_length s l.path)));
     }
 
@@ -58,7 +58,7 @@ returns-then-not-is_key c =
       is = λ v h.
           let z = here (goal.at.returns-then-not-is_key c).In-loop-list v h in
           ap path_in z.is
-          ∙ path_bad z.items z.closing (listed_bad key_of keys_of refl (λ t ts. refl) s tb c.behind-end.result z.items z.closing l.j (whole s l.path) (l.invariant.2 z.items z.closing z.at) (sym c.loop-list-test.ensures)
+          ∙ path_bad z.items z.closing (listed_bad (l.invariant.2 z.items z.closing z.at) c.loop-list-test.ensures key_of (λ t ts. refl)
           (λ u b. key_here_lem s tb c.behind-end.result l.j k u b c.after_prefix-k.ensures ∙ no_key s tb k (sym c.if-not-is_key.ensures)));
     }
 
@@ -69,7 +69,7 @@ pub loop-list-smaller : goal.loop-list-smaller
 loop-list-smaller c =
     let a = c.args in
     let u = tree_here (goal.at.loop-list-smaller c).In-loop-list c.requires.0 c.requires.1 in
-    omega (arith, more_in a.list.table.now c.behind-end.result c.loop-list.j (sym c.loop-list-test.ensures), c.next_tree-j.ensures a.list.text.now u.0 u.1, tree_pos u.0)
+    omega (arith, more_in _ _ _ (sym c.loop-list-test.ensures), c.next_tree-j.ensures _ u.0 u.1, tree_pos u.0)
 
 pub loop-list-preserved : goal.loop-list-preserved
 loop-list-preserved c =
@@ -82,9 +82,9 @@ loop-list-preserved c =
     let w : Place = record { start = c.start.result; end = c.text_end.result } in (
       omega (arith, l.invariant.0),
       length-set l.path.places l.path.len w ∙ l.invariant.1,
-      λ vs cl h. subst (Listed key_of keys_of refl (λ t ts. refl) s tb c.behind-end.result vs cl c.next_tree-j.result)
+      λ vs cl h. subst (Listed keys_of _ _ _ vs cl _)
           (sym (key_put s l.path.places l.path.len w (omega (arith, l.invariant.0, l.invariant.1))))
-          (listed_next key_of keys_of refl (λ t ts. refl) s tb c.behind-end.result vs cl l.j (whole s l.path) (l.invariant.2 vs cl h) (sym c.loop-list-test.ensures) c.next_tree-j.result c.next_tree-j.ensures (part s c.start.result c.text_end.result)
+          (listed_next (l.invariant.2 vs cl h) c.loop-list-test.ensures key_of (λ t ts. refl) _ c.next_tree-j.ensures (part s c.start.result c.text_end.result)
           (λ u b. key_here_lem s tb c.behind-end.result l.j k u b c.after_prefix-k.ensures ∙ a_key s tb k key ∙ ap Some (key_part s tb k key ∙ ap₂ (part s) (sym c.start.ensures.value) (sym c.text_end.ensures.value)))),
     )
 
@@ -93,7 +93,7 @@ behind : (t : After-loop-list) (v : TokenValue) (h : ValueAt t.args.list.text.no
     → (z : TheList t.args.list.text.now t.args.list.table.now t.args.i t.behind-end.result t.behind-end.ensures v h) × (keys_of z.items ≡ Some (whole t.args.list.text.now t.loop-list.path))
 behind t v h =
     let z = the_list _ _ _ _ t.behind-end.ensures v h (t.if-not-is.ensures.0 refl) in
-    (z, listed_all key_of keys_of refl (λ t ts. refl) _ _ _ _ _ _ _ (t.loop-list.invariant.2 z.items z.closing z.at) (sym t.loop-list-test.ensures))
+    (z, listed_all (t.loop-list.invariant.2 z.items z.closing z.at) t.loop-list-test.ensures refl)
 
 pub returns-then-path-eq0 : goal.returns-then-path-eq0
 returns-then-path-eq0 c =
@@ -119,4 +119,4 @@ returns c =
     }
 
 pub overflow_add-j : goal.overflow_add-j
-overflow_add-j c = omega (arith, value_in c.args.list.text.now c.args.list.table.now c.args.i c.requires.0 c.requires.1, c.ranges.list)
+overflow_add-j c = omega (arith, value_in _ _ _ _ c.requires.1, c.ranges.list)

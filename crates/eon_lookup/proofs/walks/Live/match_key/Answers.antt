@@ -1,16 +1,16 @@
-use Rattle.std.proofs.Common.{Bool, true, false, not, ◌≡◌, refl, sym, ap₂, ◌∙◌, subst, get_or, take, length-take-le, ◌+◌, arith}
+use Rattle.std.proofs.Common.{ap, Bool, true, false, not, ◌≡◌, refl, sym, ap₂, ◌∙◌, subst, get_or, take, length-take-le, ◌+◌, arith}
+use Rattle.std.proofs.Math.Bool.{not-not}
 use Rattle.eon_spec.specs.Base.{eq_list}
 use Rattle.eon_lookup.specs.Keys.{key_here, GoesOn, Going}
 use Rattle.eon_lookup.specs.Live.{matches, KeyMatched}
 use Rattle.eon_lookup.proofs.Turns.{no_key, a_key, going_at, text_says, turns_end, none_matched, turn_other, turn_on, turn_ends}
-use Rattle.eon_lookup.proofs.Lists.{empty, not_empty}
+use Rattle.eon_lookup.proofs.Lists.{not_empty}
 use Rattle.eon_lookup.proofs.Pairs.{on_going}
 use Rattle.eon_lookup.proofs.walks.Live.match_key.Goals as goal
 use Rattle.eon_lookup.proofs.walks.Live.match_key.Goals.{After-ne, In-loop-p, After-loop-p}
 
 pub returns-then-not-is_key : goal.returns-then-not-is_key
-returns-then-not-is_key c = let a = c.args in
-    none_matched a.self.text.now a.self.paths.now a.self.matched (key_here a.event.text.now a.event.table.now a.k) a.self.numbers.now a.w a.answers.now c.told-answers (no_key a.event.text.now a.event.table.now a.k (sym c.if-not-is_key.ensures))
+returns-then-not-is_key c = let e = c.args.event in none_matched _ _ _ _ _ _ _ c.told-answers (no_key e.text.now e.table.now c.args.k (sym c.if-not-is_key.ensures))
 
 -- the path that is looked at has a key left
 here : (t : In-loop-p) → GoesOn t.args.self.paths.now t.args.self.matched (get_or t.args.self.numbers.now t.loop-p.p-index 0)
@@ -22,37 +22,28 @@ offset_bounds-self-p c = let h = here (goal.at.offset_bounds-self-p c).In-loop-p
 pub bounds-self-p : goal.bounds-self-p
 bounds-self-p c = (here (goal.at.bounds-self-p c).In-loop-p).there
 
-pub text-requires : goal.text-requires
-text-requires c = let h = here (goal.at.text-requires c).In-loop-p in omega (arith, h.more, h.few)
-
 pub give-requires-clause-path : goal.give-requires-clause-path
 give-requires-clause-path c = (here (goal.at.give-requires-clause-path c).In-loop-p).small
-
-flipped : (x z : Bool) → not x ≡ not z → z ≡ x
-flipped true true e = refl
-flipped true false e = e
-flipped false true e = e
-flipped false false e = refl
 
 -- what the test of the two texts says of the path
 says : (t : After-ne) (z : Bool) → t.ne.result ≡ not z → matches t.args.self.text.now t.args.self.paths.now t.args.self.matched (key_here t.args.event.text.now t.args.event.table.now t.args.k) (get_or t.args.self.numbers.now t.loop-p.p-index 0) ≡ z
 says t z e =
     let a = t.args in
     text_says a.self.text.now a.self.paths.now a.self.matched (key_here a.event.text.now a.event.table.now a.k) a.self.numbers.now a.w a.answers.now _ (a_key a.event.text.now a.event.table.now a.k (sym t.if-not-is_key.ensures)) (get_or a.self.numbers.now t.loop-p.p-index 0) z
-    (flipped _ z (sym t.ne.ensures ∙ e) ∙ ap₂ eq_list t.text.ensures t.record_text-key.ensures)
+    (sym (not-not z) ∙ ap not (sym e ∙ t.ne.ensures) ∙ not-not _ ∙ ap₂ eq_list t.text.ensures t.record_text-key.ensures)
 
 pub loop-p-preserved-then-ne : goal.loop-p-preserved-then-ne
-loop-p-preserved-then-ne c = let a = c.args in
-    turn_other a.self.text.now a.self.paths.now a.self.matched (key_here a.event.text.now a.event.table.now a.k) a.self.numbers.now a.w a.answers.now c.loop-p.answers c.loop-p.next c.loop-p.n c.loop-p.p-index c.loop-p.invariant c.loop-p-test.true (says (goal.at.loop-p-preserved-then-ne c).After-ne false c.if-ne.true)
+loop-p-preserved-then-ne c =
+    turn_other _ _ _ _ _ _ _ _ _ _ _ c.loop-p.invariant c.loop-p-test.true (says (goal.at.loop-p-preserved-then-ne c).After-ne false c.if-ne.true)
 
 pub loop-p-preserved-then-behind-keys : goal.loop-p-preserved-then-behind-keys
-loop-p-preserved-then-behind-keys c = let a = c.args in
-    turn_on a.self.text.now a.self.paths.now a.self.matched (key_here a.event.text.now a.event.table.now a.k) a.self.numbers.now a.w a.answers.now c.loop-p.answers c.loop-p.next c.loop-p.n c.loop-p.p-index c.loop-p.invariant c.loop-p-test.true (says (goal.at.loop-p-preserved-then-behind-keys c).After-ne true c.if-ne.false) c.if-behind-keys.true (omega (arith, c.loop-p-test.true, c.args.self.few))
+loop-p-preserved-then-behind-keys c =
+    turn_on _ _ _ _ _ _ _ _ _ _ _ c.loop-p.invariant c.loop-p-test.true (says (goal.at.loop-p-preserved-then-behind-keys c).After-ne true c.if-ne.false) c.if-behind-keys.true (omega (arith, c.loop-p-test.true, c.args.self.few))
 
 pub loop-p-preserved : goal.loop-p-preserved
-loop-p-preserved c = let a = c.args in
+loop-p-preserved c =
     let h = here (goal.at.loop-p-preserved c).In-loop-p in
-    turn_ends a.self.text.now a.self.paths.now a.self.matched (key_here a.event.text.now a.event.table.now a.k) a.self.numbers.now a.w a.answers.now c.loop-p.answers c.loop-p.next c.loop-p.n c.loop-p.p-index c.loop-p.invariant c.loop-p-test.true (says (goal.at.loop-p-preserved c).After-ne true c.if-ne.false) c.if-behind-keys.false h.small c.requires c.give.new.answers c.give.ensures
+    turn_ends _ _ _ _ _ _ _ _ _ _ _ c.loop-p.invariant c.loop-p-test.true (says (goal.at.loop-p-preserved c).After-ne true c.if-ne.false) c.if-behind-keys.false h.small c.requires c.give.new.answers c.give.ensures
 
 -- behind the last path
 matched : (t : After-loop-p)
@@ -71,12 +62,3 @@ invariant_of-result c =
       few = omega (arith, l.invariant.few, l.invariant.inside, l.invariant.room, c.args.self.few, length-take-le l.n l.next (omega (arith, l.invariant.few, l.invariant.inside, l.invariant.room, c.args.self.few)));
       going = g;
     }
-
-pub returns-then-is_empty : goal.returns-then-is_empty
-returns-then-is_empty c =
-    let b = matched (goal.at.returns-then-is_empty c).After-loop-p in
-    record { size = b.size; list = sym (empty _ _ b.list c.if-is_empty.ensures); gains = b.gains }
-
-pub returns : goal.returns
-returns c = let on = take c.loop-p.n c.loop-p.next in
-    (not_empty on on refl c.if-is_empty.ensures, refl, refl, refl, matched (goal.at.returns c).After-loop-p)

@@ -1,5 +1,4 @@
-use Rattle.std.proofs.Common.{refl, sym, rules, tests, ap, ap₂, ◌∙◌, ◌≡◌, ◌<◌, ◌++◌, [], ◌∷◌, length, map, set, arith}
-use Rattle.std.proofs.lemmas.List.{map-id}
+use Rattle.std.proofs.Common.{sym, rules, tests, ap, ap₂, ◌∙◌, ◌≡◌, ◌<◌, ◌++◌, [], ◌∷◌, length, map, set, arith, map-id}
 use Rattle.std.proofs.lemmas.Iterator.{YieldsList-from_range}
 use Rattle.std.proofs.lemmas.Iterator.Consumers.{YieldsList-at, YieldsList-from_filter, YieldsList-from_enumerate, YieldsList-turn, YieldsList-end}
 use Rattle.eon_spec.specs.Calls.{written}
@@ -19,9 +18,6 @@ here x =
     (YieldsList-at x.into_iter-count-iterator.ensures.into_iter_gives (YieldsList-from_enumerate (YieldsList-at x.enumerate-count-items.ensures.source (YieldsList-from_filter _ (λ i. shares_byte q.from q.to (record_of q.sheet.table.now i)) (YieldsList-from_range 0 q.records q.records x.filter-found.ensures.source (omega arith)) x.filter-found.ensures.closure (λ x b q k. search (rules, tests)))) x.enumerate-count-items.ensures.count))
     x.loop-count.yielded _ x.loop-count.yielded_by _ _ (x.in-Some.count, x.in-Some.i) x.in-Some.is x.next.ensures.steps)
 
-pub loop-count-init : goal.loop-count-init
-loop-count-init c = refl
-
 pub bounds-hits-count : goal.bounds-hits-count
 bounds-hits-count c = omega (arith, (here (goal.at.bounds-hits-count c).In-Some).0, c.loop-count.auto.hits)
 
@@ -36,6 +32,3 @@ returns c =
     (YieldsList-at c.into_iter-count-iterator.ensures.into_iter_gives (YieldsList-from_enumerate (YieldsList-at c.enumerate-count-items.ensures.source (YieldsList-from_filter _ (λ i. shares_byte q.from q.to (record_of q.sheet.table.now i)) (YieldsList-from_range 0 q.records q.records c.filter-found.ensures.source (omega arith)) c.filter-found.ensures.closure (λ x b q k. search (rules, tests)))) c.enumerate-count-items.ensures.count))
     c.loop-count.yielded _ c.loop-count.yielded_by _ _ c.in-None.is c.next.ensures.steps in
     c.loop-count.invariant ∙ ap (λ hs. written hs c.args.hits.now) (ap (map (placed q.from q.to q.sheet.table.now)) (sym (map-id c.loop-count.yielded) ∙ all.0) ∙ all_placed q.from q.to q.sheet.table.now q.records)
-
-pub offset_bounds-hits-count : goal.offset_bounds-hits-count
-offset_bounds-hits-count c = omega (arith, (here (goal.at.offset_bounds-hits-count c).In-Some).0, c.loop-count.auto.hits, c.well_formed)
