@@ -10,7 +10,7 @@ returns-in_err-written c =
     let told = c.in_ok-table.table.now in
     let oold = c.in_ok-out.out.now in
     let r = c.in_err-written.field-0.0 in
-    let call = rw c.new.ensures at c.in_err-written.ensures in
+    let call = rw c.default.ensures at c.in_err-written.ensures in
     refusal_said _ r c.from_residual-in_err-written.ensures ∙ sym (reformat_refuses s told oold c.reformat.new.table c.reformat.new.out _ call)
     ∙ ap₂ (λ k n. of_outcome (read_text s) (laid_said k n)) c.in_ok-table.ensures.size c.in_ok-out.ensures.size
     ∙ lent_fits (vec_len c.args.self.now.room) c.args.bytes _ (search rules)
@@ -21,7 +21,7 @@ returns c =
     let s = c.in_ok-text.text.now in
     let told = c.in_ok-table.table.now in
     let oold = c.in_ok-out.out.now in
-    let call = rw c.new.ensures at c.in_ok-written.ensures in
+    let call = rw c.default.ensures at c.in_ok-written.ensures in
     ap bytes c.front.ensures ∙ sym (reformat_answers s told oold c.reformat.new.table c.reformat.new.out c.in_ok-written.written call)
     ∙ ap₂ (λ k n. of_outcome (read_text s) (laid_said k n)) c.in_ok-table.ensures.size c.in_ok-out.ensures.size
     ∙ lent_fits (vec_len c.args.self.now.room) c.args.bytes _ (search rules)
