@@ -1,15 +1,9 @@
 -- What the calls answer is what `Calls` says of a text. Assumes nothing.
-use Rattle.std.specs.Prelude.{Result, Ok, Err}
-use mathlib.Core.Path.{◌≡◌, refl, sym, ap, ◌∙◌, subst}
-use mathlib.Core.Bool.{Bool, true, false, ◌&&◌, cond}
-use mathlib.Core.List.{List, [], ◌∷◌}
-use Prim.Native.Nat.{ℕ, suc, ◌+◌, ◌*◌, ◌≤◌, ◌<◌}
-use native.Mathlib.Omega.{arith}
-use lib.ListN.{length, get_or, take, drop, drop_of_length-le}
-use lib.Seq.{sets, drop-cons}
-use lib.Dec.{eqb, ltb}
-use borrow.Author.Tests.{le-leb, lt-leb, ltb-true, ltb-false}
+use Rattle.std.proofs.Common.{◌≡◌, ℕ, suc, ◌+◌, ◌*◌, ◌<◌, ◌≤◌, Bool, true, false, cond, ◌&&◌, eqb, ltb, List, [], ◌∷◌, length, get_or, take, drop, Ok, Err, Result, sym, refl, ap, ◌∙◌, subst, arith, drop_of_length-le, drop-cons, ltb-false, ltb-true, le-leb}
+use Rattle.std.proofs.lemmas.Bool.{lt-leb}
+use lib.Seq.{sets}
 use Rattle.eon_spec.specs.Base.{eq_list}
+use Rattle.eon_spec.specs.Refused as refused
 use Rattle.eon_spec.specs.Refused.{refusal_of}
 use Rattle.eon_spec.specs.declared.refusal.Refusal.{Refusal}
 use Rattle.eon_spec.specs.declared.refusal.Reason.TheVariants.{Surplus}
@@ -145,9 +139,6 @@ module _ (s tb : List ℕ) (u8 : is_utf8 s ≡ true) (short : length s ≤ 65535
   unfolding top_at
   way = maps_way map_o refl
 
-  clash : {A : Type 0} → ◌≡◌ {A = ℕ} 0 1 → A
-  clash z = absurd (omega arith)
-
   -- ---- what the walk tells of the text
 
   pub record Told (x : Shape) (old : List ℕ) (b : Bool) (t : Top) : Type 0 where
@@ -157,19 +148,19 @@ module _ (s tb : List ℕ) (u8 : is_utf8 s ≡ true) (short : length s ≤ 65535
     pub same : t.same ≡ cond b (agrees old 0 (words records)) false
 
   pub told : (x : Shape) (old : List ℕ) (b : Bool) (t : Top) → top_view old b x ≡ Ok t → Told x old b t
-  told (denied r) old b t e = clash cc
+  told (denied r) old b t e = cc
   told (asMap ts) old b t e = record { records = ts; gives_it = refl; count = cc; same = cc }
   told (asSingle ts) old b t e = record { records = ts; gives_it = refl; count = cc; same = cc }
   told (asSeveral ts) old b t e = record { records = ts; gives_it = refl; count = cc; same = cc }
 
   pub untold : (x : Shape) (old : List ℕ) (b : Bool) (r : Refusal) → top_view old b x ≡ Err r → shape_whole x ≡ denies (refusal_of r)
   untold (denied q) old b r e = let z : q ≡ r = cc in ap (λ (y : Refusal). denies (refusal_of y)) z
-  untold (asMap ts) old b r e = clash cc
-  untold (asSingle ts) old b r e = clash cc
-  untold (asSeveral ts) old b r e = clash cc
+  untold (asMap ts) old b r e = cc
+  untold (asSingle ts) old b r e = cc
+  untold (asSeveral ts) old b r e = cc
 
   few_of : (x : Shape) → Way x → (ts : Records) → shape_whole x ≡ gives ts → length ts ≤ length s + 1
-  few_of x (no_way r e) ts f = let z = sym (ap shape_whole e) ∙ f in clash cc
+  few_of x (no_way r e) ts f = let z = sym (ap shape_whole e) ∙ f in cc
   few_of x (map_way us l o e) ts f =
       let g : (0 + length us ≤ l.end) × Spot s l = rw o at (map_reach s (below 128 s) (below_far 128 s) (span 0 0) (start_spot s u8)) in
       let z : gives (header 5 0 0 (length s) us ∷ us) ≡ gives ts = sym (ap shape_whole e) ∙ f in
@@ -223,27 +214,27 @@ module _ (s tb : List ℕ) (u8 : is_utf8 s ≡ true) (short : length s ≤ 65535
     read_map f g = go way
       where
         go : Way (top_at s) → after (done t.count) tb' ≡ read_call s tb
-        go (no_way r x) = let z = sym (ap (top_view old b) x) ∙ e in clash cc
+        go (no_way r x) = let z = sym (ap (top_view old b) x) ∙ e in cc
         go (map_way ts l o x) = let z = sym (ap (top_view old b) x) ∙ e in filled (topped (length s) 5 map_o) (header 5 0 0 (length s) ts ∷ ts) l (ap (topped (length s) 5) o) _ x refl (cc) g
-        go (one_way ts l o x) = let z = sym (ap (top_view old b) x) ∙ e in let q : form.Single ≡ t.form = cc in clash cc
-        go (list_way ts l o x) = let z = sym (ap (top_view old b) x) ∙ e in let q : form.Several ≡ t.form = cc in clash cc
+        go (one_way ts l o x) = let z = sym (ap (top_view old b) x) ∙ e in let q : form.Single ≡ t.form = cc in cc
+        go (list_way ts l o x) = let z = sym (ap (top_view old b) x) ∙ e in let q : form.Several ≡ t.form = cc in cc
 
     pub read_single : t.form ≡ form.Single → Stored tb w (one s (below 128 s) (place w)) tb' → after (done t.count) tb' ≡ read_call s tb
     read_single f g = go way
       where
         go : Way (top_at s) → after (done t.count) tb' ≡ read_call s tb
-        go (no_way r x) = let z = sym (ap (top_view old b) x) ∙ e in clash cc
-        go (map_way ts l o x) = let z = sym (ap (top_view old b) x) ∙ e in let q : form.Map ≡ t.form = cc in clash cc
+        go (no_way r x) = let z = sym (ap (top_view old b) x) ∙ e in cc
+        go (map_way ts l o x) = let z = sym (ap (top_view old b) x) ∙ e in let q : form.Map ≡ t.form = cc in cc
         go (one_way ts l o x) = let z = sym (ap (top_view old b) x) ∙ e in filled (one s (below 128 s) (place w)) ts l (ap (one s (below 128 s)) (start_place s w st) ∙ o) _ x refl (cc) g
-        go (list_way ts l o x) = let z = sym (ap (top_view old b) x) ∙ e in let q : form.Several ≡ t.form = cc in clash cc
+        go (list_way ts l o x) = let z = sym (ap (top_view old b) x) ∙ e in let q : form.Several ≡ t.form = cc in cc
 
     pub read_several : t.form ≡ form.Several → Stored tb w (topped (length s) 4 list_o) tb' → after (done t.count) tb' ≡ read_call s tb
     read_several f g = go way
       where
         go : Way (top_at s) → after (done t.count) tb' ≡ read_call s tb
-        go (no_way r x) = let z = sym (ap (top_view old b) x) ∙ e in clash cc
-        go (map_way ts l o x) = let z = sym (ap (top_view old b) x) ∙ e in let q : form.Map ≡ t.form = cc in clash cc
-        go (one_way ts l o x) = let z = sym (ap (top_view old b) x) ∙ e in let q : form.Single ≡ t.form = cc in clash cc
+        go (no_way r x) = let z = sym (ap (top_view old b) x) ∙ e in cc
+        go (map_way ts l o x) = let z = sym (ap (top_view old b) x) ∙ e in let q : form.Map ≡ t.form = cc in cc
+        go (one_way ts l o x) = let z = sym (ap (top_view old b) x) ∙ e in let q : form.Single ≡ t.form = cc in cc
         go (list_way ts l o x) = let z = sym (ap (top_view old b) x) ∙ e in filled (topped (length s) 4 list_o) (header 4 0 0 (length s) ts ∷ ts) l (ap (topped (length s) 4) o) _ x refl (cc) g
 
   -- ---- a finished table
@@ -269,12 +260,12 @@ module _ (s tb : List ℕ) (u8 : is_utf8 s ≡ true) (short : length s ≤ 65535
   once_of tb' p a e f g = record { count = e ∙ ap (λ (o : Outcome TokenTree). then o count_of) (sym g); table = ap (λ (o : Outcome TokenTree). then o (finish tb')) g ∙ f ∙ sym g }
 
   once_denied : (tb' : List ℕ) (p : Parsed) (r : Refusal) → whole_of p ≡ denies (refusal_of r) → read_text s ≡ parsed_outcome p → Once (Err r) tb'
-  once_denied tb' (parsed t) r e g = clash cc
+  once_denied tb' (parsed t) r e g = cc
   once_denied tb' (refused_by q) r e g = let z : q ≡ refusal_of r = cc in once_of tb' (refused_by q) (Err r) (ap refused_with (sym z)) refl g
 
   once_given : (tb' : List ℕ) (p : Parsed) (n : ℕ) (ts : Records) → whole_of p ≡ gives ts → n ≡ length ts → take (length (words ts)) tb' ≡ words ts → read_text s ≡ parsed_outcome p → Once (Ok n) tb'
   unfolding is_finished
-  once_given tb' (refused_by q) n ts e c h g = clash cc
+  once_given tb' (refused_by q) n ts e c h g = cc
   once_given tb' (parsed t) n ts e c h g =
       let z : tree_records t ≡ ts = cc in
       once_of tb' (parsed t) (Ok n) (ap done (c ∙ ap (λ (l : Records). length l) (sym z)))
@@ -282,7 +273,7 @@ module _ (s tb : List ℕ) (u8 : is_utf8 s ≡ true) (short : length s ≤ 65535
     where
       is_there : (b : Bool) → b ≡ true → elim b as (λ x. Outcome TokenTree) [ true ↦ done t | false ↦ refused_with (nowhere 15) ] ≡ done t
       is_there true e = refl
-      is_there false e = clash (ap (λ (b : Bool). cond b 1 0) e)
+      is_there false e = cc
 
   module _ (old : List ℕ) (b : Bool) (tb' : List ℕ) where
     pub once_no : (r : Refusal) → top_view old b (top_at s) ≡ Err r → Once (Err r) tb'
@@ -315,3 +306,13 @@ module _ (s tb : List ℕ) (r : Refusal) (e : checked s done ≡ refused_with (r
   pub once_refused : read_finished s tb ≡ read_text s
   unfolding read_finished
   once_refused = ap (λ (o : Outcome TokenTree). then o (finish tb)) unread ∙ sym unread
+
+-- ---- what a count tells of a text: its tree, with as many records, or why there is none
+
+pub found : (x : Outcome TokenTree) (n : ℕ) → done n ≡ then x count_of → (t : TokenTree) × (x ≡ done t) × (n ≡ length (tree_records t))
+found (done t) n e = (t, refl, cc)
+found (refused_with r) n e = cc
+
+pub lost : (x : Outcome TokenTree) (r : refused.Refusal) → refused_with r ≡ then x count_of → x ≡ refused_with r
+lost (done t) r e = cc
+lost (refused_with q) r e = cc

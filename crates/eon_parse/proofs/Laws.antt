@@ -1,13 +1,7 @@
 -- Laws of the definitions: records and their words, the comparison, the walk after records.
 -- Assumes nothing.
-use mathlib.Core.Path.{◌≡◌, refl, sym, ap, ◌∙◌}
-use mathlib.Core.List.{List, [], ◌∷◌, ◌++◌}
-use mathlib.Core.Bool.{Bool, true, false, cond}
-use Prim.Native.Nat.{ℕ, zero, suc, ◌+◌, ◌-◌, ◌*◌}
-use native.Mathlib.Nat.{add-zero, add-suc, suc-add}
+use Rattle.std.proofs.Common.{◌≡◌, ℕ, zero, suc, ◌+◌, ◌-◌, ◌*◌, Bool, true, false, cond, List, [], ◌∷◌, ◌++◌, length, Ok, Err, sym, refl, ap, ◌∙◌, add-zero, add-suc, suc-add, arith, length-append}
 use native.Mathlib.Numerals.{towards_suc}
-use native.Mathlib.Omega.{arith}
-use lib.ListN.{length, length-append}
 use Rattle.eon_spec.specs.Tree.{Span}
 use Rattle.eon_spec.specs.declared.refusal.Refusal.{Refusal}
 use Rattle.eon_spec.specs.Records.{words}
@@ -20,8 +14,6 @@ use Rattle.eon_parse.specs.Answer.{agrees, holds, stop_of, place, emit, bared, c
 use Rattle.eon_parse.specs.declared.walk.Walk.{Walk}
 use Rattle.eon_parse.specs.declared.walk.Stop.{Stop}
 use Rattle.eon_parse.specs.declared.walk.Past.{Past}
-use Rattle.std.specs.Prelude.{Err, Ok}
-use Rattle.std.specs.Prelude.{Ok, Err}
 
 -- ---- tests
 
@@ -167,21 +159,21 @@ module _ (s tb : List ℕ) (w : Walk) where
   pub was_refused : (o : Out Records) {x : Stop} → bared s tb w o ≡ Err x → Failed o x
   unfolding bared
   was_refused (refuse r e) q = record { why = r; far = e; is = refl; so = cc }
-  was_refused (got t n) q = let z : ◌≡◌ {A = ℕ} 0 1 = cc in absurd (omega arith)
+  was_refused (got t n) q = cc
 
   pub was_done : (o : Out Records) {x : Walk} → bared s tb w o ≡ Ok x → Came o (λ f n. x ≡ emit s tb w f n)
   unfolding bared
-  was_done (refuse r e) q = let z : ◌≡◌ {A = ℕ} 0 1 = cc in absurd (omega arith)
+  was_done (refuse r e) q = cc
   was_done (got t n) q = record { what = t; next = n; is = refl; so = cc }
 
   pub was_stopped : (o : Out Item) {x : Stop} → counted s tb w o ≡ Err x → Failed o x
   unfolding counted
   was_stopped (refuse r e) q = record { why = r; far = e; is = refl; so = cc }
-  was_stopped (got t n) q = let z : ◌≡◌ {A = ℕ} 0 1 = cc in absurd (omega arith)
+  was_stopped (got t n) q = cc
 
   pub was_value : (o : Out Item) {x : Walk} {f : ℕ} → counted s tb w o ≡ past x f → Came o (λ i n. (x ≡ emit s tb w i.body n) × (f ≡ i.from))
   unfolding counted
-  was_value (refuse r e) q = let z : ◌≡◌ {A = ℕ} 0 1 = cc in absurd (omega arith)
+  was_value (refuse r e) q = cc
   was_value (got i n) {x} {f} q =
       let z : record { walk = emit s tb w i.body n; from = i.from } ≡ record { walk = x; from = f } = cc in
       record { what = i; next = n; is = refl; so = (sym (ap (λ (y : Past). y.walk) z), sym (ap (λ (y : Past). y.from) z)) }
@@ -189,11 +181,11 @@ module _ (s tb : List ℕ) (w : Walk) where
 pub not_expected : (s : List ℕ) (w : Walk) (o : Out (Unit {0})) {x : Stop} → expected s w o ≡ Err x → Failed o x
 unfolding expected
 not_expected s w (refuse r e) q = record { why = r; far = e; is = refl; so = cc }
-not_expected s w (got t n) q = let z : ◌≡◌ {A = ℕ} 0 1 = cc in absurd (omega arith)
+not_expected s w (got t n) q = cc
 
 pub was_expected : (s : List ℕ) (w : Walk) (o : Out (Unit {0})) {x : Walk} → expected s w o ≡ Ok x → Came o (λ u n. x ≡ moved s w n)
 unfolding expected
-was_expected s w (refuse r e) q = let z : ◌≡◌ {A = ℕ} 0 1 = cc in absurd (omega arith)
+was_expected s w (refuse r e) q = cc
 was_expected s w (got u n) q = record { what = u; next = n; is = refl; so = cc }
 
 -- ---- depth

@@ -1,14 +1,8 @@
 -- What is left of a loop's definition, from the place where it stands; and how far a reading gets.
 -- Assumes nothing.
 use Rattle.eon_spec.specs.declared.token_kind.TokenKind.TheVariants.{CloseList, CloseBrace, CloseParen, Colon}
-use mathlib.Core.Path.{◌≡◌, refl, sym, ap, ◌∙◌}
-use mathlib.Core.List.{List, [], ◌∷◌, ◌++◌}
-use mathlib.Core.Bool.{Bool, true, false, not}
-use Prim.Native.Nat.{ℕ, zero, suc, ◌+◌, ◌≤◌, ◌<◌}
-use native.Mathlib.Omega.{arith}
-use lib.ListN.{length, length-append}
-use lib.Dec.{eqb, ltb}
-use borrow.Author.Tests.{eqb-true, eqb-false, ltb-true}
+use Rattle.std.proofs.Common.{◌≡◌, ℕ, zero, suc, ◌+◌, ◌<◌, ◌≤◌, Bool, true, false, not, eqb, ltb, List, [], ◌∷◌, ◌++◌, length, sym, refl, ap, ◌∙◌, arith, length-append, ltb-true, eqb-true}
+use Rattle.std.proofs.lemmas.Bool.{eqb-false}
 use Rattle.eon_spec.specs.Tree.{Span}
 use Rattle.eon_spec.specs.declared.refusal.Refusal.{Refusal}
 use Rattle.eon_spec.specs.Records.{leaf}
@@ -101,7 +95,7 @@ not_comment s l = go (eqb (kind_at s l) 1) refl
   where
     go : (b : Bool) → eqb (kind_at s l) 1 ≡ b → not b ≡ false → kind_at s l ≡ 1
     go true e h = eqb-true (kind_at s l) 1 e
-    go false e h = let z : ◌≡◌ {A = ℕ} 0 1 = cc in absurd (omega arith)
+    go false e h = cc
 
 pub comment_gets : (s : List ℕ) (p : Span) → Spot s p → no_comment s p ≡ false → Gets s p
 comment_gets s p b e = gets s p b (omega (arith, not_comment s p e))

@@ -2,18 +2,10 @@
 -- Assumes nothing.
 use Rattle.eon_spec.specs.declared.refusal.Reason.TheVariants.{MissingValue}
 use Rattle.eon_spec.specs.declared.token_kind.TokenKind.TheVariants.{Colon}
-use mathlib.Core.Path.{◌≡◌, refl, sym, ap, ◌∙◌, subst}
-use mathlib.Core.List.{List, [], ◌∷◌, ◌++◌}
-use mathlib.Core.Bool.{Bool, true, false, cond}
-use Prim.Native.Nat.{ℕ, ◌+◌, ◌≤◌, ◌<◌}
-use native.Mathlib.Omega.{arith}
-use lib.ListN.{length, length-append}
-use lib.Dec.{eqb}
-use borrow.Author.Tests.{eq-eqb, ne_eqb}
+use Rattle.std.proofs.Common.{◌≡◌, ℕ, ◌+◌, ◌<◌, ◌≤◌, Bool, true, false, cond, eqb, List, [], ◌∷◌, ◌++◌, length, IsSome, sym, refl, ap, ◌∙◌, subst, arith, length-append, eq-eqb, ne_eqb}
 use Rattle.eon_spec.specs.Tree.{Span}
 use Rattle.eon_spec.specs.declared.refusal.Refusal.{Refusal}
 use Rattle.eon_spec.specs.Records.{Record, record_at, leaf}
-use Rattle.std.specs.Prelude.{IsSome}
 use Rattle.eon_token.specs.Placed.{placed_at, code_of}
 use Rattle.eon_token.specs.Place.{Spot, Standing, place_of, cursor_at, kind_at, next_span, span}
 use Rattle.eon_parse.specs.Walk.{Out, refuse, got, Records, strings, loop, run, expect, suffix_end, tail_r, Item, whole, settled, stops, one, two, inside, header, list_at, map_at, variant_at, leaf_at, string_at, bare_at, item_at, reason_of, refused_at}

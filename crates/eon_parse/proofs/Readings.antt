@@ -1,13 +1,6 @@
 -- What the readers' clauses say of what is read, and what a reader's steps make of its own. Over plain variables. Assumes nothing.
-use Rattle.std.specs.Prelude.{Result, Ok, Err, Some, None, IsSome}
-use mathlib.Core.Path.{◌≡◌, refl, sym, ap, ◌∙◌, subst}
-use mathlib.Core.Bool.{Bool, true, false, cond}
-use mathlib.Core.List.{List, [], ◌∷◌}
-use Prim.Native.Nat.{ℕ, ◌+◌, ◌-◌, ◌*◌, ◌≤◌, ◌<◌}
-use native.Mathlib.Omega.{arith}
-use lib.ListN.{length}
+use Rattle.std.proofs.Common.{◌≡◌, ℕ, ◌+◌, ◌-◌, ◌*◌, ◌<◌, ◌≤◌, Bool, true, false, cond, eqb, List, [], ◌∷◌, length, IsSome, Some, None, Ok, Err, Result, sym, refl, ap, ◌∙◌, subst, arith, ne_eqb, Option}
 use lib.Seq.{sets}
-use lib.Dec.{eqb}
 use Rattle.eon_spec.specs.Tree.{Span}
 use Rattle.eon_spec.specs.RecordKind.{word_of}
 use Rattle.eon_spec.specs.declared.record_kind.RecordKind.{RecordKind}
@@ -22,7 +15,6 @@ use Rattle.eon_token.proofs.Places.{Gets, gets}
 use Rattle.eon_token.proofs.KindCodes.{code_some, code_none, kind_small}
 use Rattle.eon_spec.specs.declared.token_kind.TokenKind.TheVariants as token
 use Rattle.eon_parse.specs.Tops.{no_value}
-use borrow.Author.Tests.{ne_eqb}
 use Rattle.eon_spec.specs.Token.{kind_number}
 use Rattle.eon_spec.specs.declared.record_kind.RecordKind.TheVariants as kind
 use Rattle.eon_parse.proofs.Steps.{leaf_put}
@@ -125,35 +117,32 @@ module _ (s old tb : List ℕ) (w : Walk) where
 
 -- ---- an inside: w and tb where it began, d and t where its loop stands
 
-module _ (s old tb : List ℕ) (w : Walk) (ready : Ready s w.cursor w.count) (step : Span → Out Records) where
-  abbrev pub Turns : Walk → List ℕ → Type 0
-  Turns d t = Inv s old (stops s) step (page w tb) (page d t)
-
-  pub turns_start : Turns w tb
+module _ {s old tb : List ℕ} {w : Walk} (ready : Ready s w.cursor w.count) {step : Span → Out Records} where
+  pub turns_start : Inv s old (stops s) step (page w tb) (page w tb)
   turns_start = inv_start s old (stops s) step (page w tb) ready
 
-  module _ (d : Walk) (t : List ℕ) (inv : Turns d t) where
+  module _ {d : Walk} {t : List ℕ} (inv : Inv s old (stops s) step (page w tb) (page d t)) where
     pub stands : Ready s d.cursor d.count
     stands = inv_ready s old (stops s) step (page w tb) ready (page d t) inv
 
-    pub inside_no : stops s (place d) ≡ false → (r : Result Walk Stop) → r ≡ bared s old d (step (place d)) → (x : Stop) → r ≡ Err x → (t' : List ℕ) → Reads s old tb w (inside s step (place w)) (Err x) t'
-    inside_no e r q x i t' =
+    pub inside_no : stops s (place d) ≡ false → {r : Result Walk Stop} → r ≡ bared s old d (step (place d)) → {x : Stop} → r ≡ Err x → (t' : List ℕ) → Reads s old tb w (inside s step (place w)) (Err x) t'
+    inside_no e {r} q {x} i t' =
         no_read s old tb w (inside s step (place w)) x t' (passed (read_no s old t d (step (place d)) r q x i) (λ k p h. inside_stop s old step (page w tb) ready (page d t) inv e h))
 
-    pub turned : ((p : Span) → Spot s p → Far s p (step p)) → stops s (place d) ≡ false → (r : Result Walk Stop) (t' : List ℕ) → r ≡ bared s old d (step (place d)) → Stored t d (step (place d)) t' → (y : Walk) → r ≡ Ok y
-        → Turns y t' × (length s - y.cursor.end < length s - d.cursor.end)
-    turned far e r t' q h y i =
+    pub turned : ((p : Span) → Spot s p → Far s p (step p)) → stops s (place d) ≡ false → {r : Result Walk Stop} {t' : List ℕ} → r ≡ bared s old d (step (place d)) → Stored t d (step (place d)) t' → {y : Walk} → r ≡ Ok y
+        → Inv s old (stops s) step (page w tb) (page y t') × (length s - y.cursor.end < length s - d.cursor.end)
+    turned far e {r} {t'} q h {y} i =
         let c = read_yes s old t d (step (place d)) r t' q h y i in
         let k = inv_turn s old (stops s) step (page w tb) ready (page d t) inv e c.is (subst (λ (o : Out Records). Far s (place d) o) c.is (far (place d) stands.bound)) (page y t') c.so in
         (k.0, omega (arith, k.1, k.2))
 
-    pub inside_yes : stops s (place d) ≡ true → (x : Walk) (t' : List ℕ) → x ≡ ran s old d (run s 9 (place d)) → Stored t d (run s 9 (place d)) t' → Reads s old tb w (inside s step (place w)) (Ok x) t'
-    inside_yes e x t' q h =
+    pub inside_yes : stops s (place d) ≡ true → {x : Walk} {t' : List ℕ} → x ≡ ran s old d (run s 9 (place d)) → Stored t d (run s 9 (place d)) t' → Reads s old tb w (inside s step (place w)) (Ok x) t'
+    inside_yes e {x} {t'} q h =
         yes_read s old tb w (inside s step (place w)) x t' (inside_got s old step (page w tb) ready (page d t) inv e (page x t') (comments_on s old t d x t' 9 stands.bound q h))
 
 -- ---- a value of a list, a key with its value: b behind the comments
 
-module _ (s old : List ℕ) (depth : ℕ) (w : Walk) (tb : List ℕ) (ready : Ready s w.cursor w.count) (b : Walk) (t₁ : List ℕ)
+module _ (s old : List ℕ) (depth : ℕ) (w : Walk) (tb : List ℕ) (ready : Ready s w.cursor w.count) {b : Walk} (t₁ : List ℕ)
     (e₁ : b ≡ ran s old w (run s 7 (place w))) (h₁ : Stored tb w (run s 7 (place w)) t₁) where
   abbrev read : Span → Out Item
   read = below depth s
@@ -167,81 +156,81 @@ module _ (s old : List ℕ) (depth : ℕ) (w : Walk) (tb : List ℕ) (ready : Re
   pub item_ready : Ready s b.cursor b.count
   item_ready = pre_ready s old read far (page w tb) ready (page b t₁) pre
 
-  module _ (j : ℕ) (less : j ≡ depth - 1) (r : Result Past Stop) (e₂ : r ≡ counted s old b (reader j s (place b))) where
+  module _ {j : ℕ} (less : j ≡ depth - 1) {r : Result Past Stop} (e₂ : r ≡ counted s old b (reader j s (place b))) where
     at_read : reader j s (place b) ≡ read (place b)
     at_read = ap (λ (i : ℕ). reader i s (place b)) less ∙ below_less depth s (place b)
 
     stopped : (x : Stop) → r ≡ Err x → Failed (read (place b)) x
     stopped x q = item_no s old t₁ b (read (place b)) r (e₂ ∙ ap (counted s old b) at_read) x q
 
-    pub one_no : (x : Stop) → r ≡ Err x → (t : List ℕ) → Reads s old tb w (one s read (place w)) (Err x) t
-    one_no x q t = no_read s old tb w (one s read (place w)) x t (passed (stopped x q) (λ k p h. one_stop s old read far (page w tb) ready (page b t₁) pre h))
+    pub one_no : {x : Stop} → r ≡ Err x → (t : List ℕ) → Reads s old tb w (one s read (place w)) (Err x) t
+    one_no {x} q t = no_read s old tb w (one s read (place w)) x t (passed (stopped x q) (λ k p h. one_stop s old read far (page w tb) ready (page b t₁) pre h))
 
-    pub two_no : (x : Stop) → r ≡ Err x → (t : List ℕ) → Reads s old tb w (two s read (place w)) (Err x) t
-    two_no x q t = no_read s old tb w (two s read (place w)) x t (passed (stopped x q) (λ k p h. two_stop s old read far (page w tb) ready (page b t₁) pre h))
+    pub two_no : {x : Stop} → r ≡ Err x → (t : List ℕ) → Reads s old tb w (two s read (place w)) (Err x) t
+    two_no {x} q t = no_read s old tb w (two s read (place w)) x t (passed (stopped x q) (λ k p h. two_stop s old read far (page w tb) ready (page b t₁) pre h))
 
-    module _ (v : Past) (q : r ≡ Ok v) (t₂ : List ℕ) (h₂ : StoredItem t₁ b (reader j s (place b)) t₂) where
+    module _ {v : Past} (q : r ≡ Ok v) (t₂ : List ℕ) (h₂ : StoredItem t₁ b (reader j s (place b)) t₂) where
       valued : Valued s old read (page b t₁) (page v.walk t₂) v.from
       valued = item_yes s old t₁ b (read (place b)) r t₂ (e₂ ∙ ap (counted s old b) at_read) (subst (λ (o : Out Item). StoredItem t₁ b o t₂) at_read h₂) v q
 
       pub got_ready : Ready s v.walk.cursor v.walk.count
       got_ready = value_ready s old read far (page w tb) ready (page b t₁) pre (page v.walk t₂) v.from valued
 
-      pub one_yes : (y : Walk) (t₃ : List ℕ) → y ≡ ran s old v.walk (settled_r s (place v.walk) v.from) → Stored t₂ v.walk (settled_r s (place v.walk) v.from) t₃ → Reads s old tb w (one s read (place w)) (Ok y) t₃
-      one_yes y t₃ e h =
+      pub one_yes : {y : Walk} {t₃ : List ℕ} → y ≡ ran s old v.walk (settled_r s (place v.walk) v.from) → Stored t₂ v.walk (settled_r s (place v.walk) v.from) t₃ → Reads s old tb w (one s read (place w)) (Ok y) t₃
+      one_yes {y} {t₃} e h =
           let c = one_next s old read far (page w tb) ready (page b t₁) pre (page v.walk t₂) v.from valued (page y t₃) (settled_on s old t₂ v.walk y t₃ v.from e h) in
           yes_read s old tb w (one s read (place w)) y t₃ (record { what = c.what; next = c.next; is = c.is; so = c.so.0 })
 
       -- a key, with its suffix comment
-      module _ (y : Walk) (e₃ : y ≡ tailed old v.walk (tail_r v.from (place v.walk))) (t₃ : List ℕ) (h₃ : t₃ ≡ stored t₂ v.walk (tail_r v.from (place v.walk))) where
+      module _ {y : Walk} (e₃ : y ≡ tailed old v.walk (tail_r v.from (place v.walk))) {t₃ : List ℕ} (h₃ : t₃ ≡ stored t₂ v.walk (tail_r v.from (place v.walk))) where
         keyed : page y t₃ ≡ emit_p s old (page v.walk t₂) (tail_r v.from (place v.walk)) (place v.walk)
         keyed = both (e₃ ∙ tail_emit s old v.walk got_ready.fresh (tail_r v.from (place v.walk))) h₃
 
         pub colon_next : Ready s y.cursor y.count
         colon_next = key_ready s old read far (page w tb) ready (page b t₁) pre (page v.walk t₂) v.from valued (page y t₃) keyed
 
-        module _ (r₄ : Result Walk Stop) (e₄ : r₄ ≡ expected s y (expect s Colon (place y))) where
-          pub colon_no : (x : Stop) → r₄ ≡ Err x → (t : List ℕ) → Reads s old tb w (two s read (place w)) (Err x) t
-          colon_no x q t =
+        module _ {r₄ : Result Walk Stop} (e₄ : r₄ ≡ expected s y (expect s Colon (place y))) where
+          pub colon_no : {x : Stop} → r₄ ≡ Err x → (t : List ℕ) → Reads s old tb w (two s read (place w)) (Err x) t
+          colon_no {x} q t =
               no_read s old tb w (two s read (place w)) x t
               (passed (not_expected s y (expect s Colon (place y)) {x = x} (sym e₄ ∙ q)) (λ k p h. colon_stop s old read far (page w tb) ready (page b t₁) pre (page v.walk t₂) v.from valued (page y t₃) keyed h))
 
-          module _ (z : Walk) (q₄ : r₄ ≡ Ok z) where
+          module _ {z : Walk} (q₄ : r₄ ≡ Ok z) where
             colon : Came (expect s Colon (place y)) (λ u n. page z t₃ ≡ page (moved s y n) t₃)
             colon = let c = was_expected s y (expect s Colon (place y)) {x = z} (sym e₄ ∙ q₄) in record { what = c.what; next = c.next; is = c.is; so = both c.so refl }
 
             pub value_next : Ready s z.cursor z.count
             value_next = colon_ready s old read far (page w tb) ready (page b t₁) pre (page v.walk t₂) v.from valued (page y t₃) keyed (page z t₃) colon
 
-            module _ (i : ℕ) (less₅ : i ≡ depth - 1) (r₅ : Result Past Stop) (e₅ : r₅ ≡ counted s old z (reader i s (place z))) where
+            module _ {i : ℕ} (less₅ : i ≡ depth - 1) {r₅ : Result Past Stop} (e₅ : r₅ ≡ counted s old z (reader i s (place z))) where
               at_second : reader i s (place z) ≡ read (place z)
               at_second = ap (λ (n : ℕ). reader n s (place z)) less₅ ∙ below_less depth s (place z)
 
-              pub second_no : (x : Stop) → r₅ ≡ Err x → (t : List ℕ) → Reads s old tb w (two s read (place w)) (Err x) t
-              second_no x q t =
+              pub second_no : {x : Stop} → r₅ ≡ Err x → (t : List ℕ) → Reads s old tb w (two s read (place w)) (Err x) t
+              second_no {x} q t =
                   no_read s old tb w (two s read (place w)) x t
                   (passed (item_no s old t₃ z (read (place z)) r₅ (e₅ ∙ ap (counted s old z) at_second) x q) (λ k p h. value_stop s old read far (page w tb) ready (page b t₁) pre (page v.walk t₂) v.from valued (page y t₃) keyed (page z t₃) colon h))
 
-              module _ (u : Past) (q₅ : r₅ ≡ Ok u) (t₅ : List ℕ) (h₅ : StoredItem t₃ z (reader i s (place z)) t₅) where
+              module _ {u : Past} (q₅ : r₅ ≡ Ok u) (t₅ : List ℕ) (h₅ : StoredItem t₃ z (reader i s (place z)) t₅) where
                 valued₅ : Valued s old read (page z t₃) (page u.walk t₅) u.from
                 valued₅ = item_yes s old t₃ z (read (place z)) r₅ t₅ (e₅ ∙ ap (counted s old z) at_second) (subst (λ (o : Out Item). StoredItem t₃ z o t₅) at_second h₅) u q₅
 
                 pub settle_next : Ready s u.walk.cursor u.walk.count
                 settle_next = second_ready s old read far (page w tb) ready (page b t₁) pre (page v.walk t₂) v.from valued (page y t₃) keyed (page z t₃) colon (page u.walk t₅) u.from valued₅
 
-                pub two_yes : (x : Walk) (t₆ : List ℕ) → x ≡ ran s old u.walk (settled_r s (place u.walk) u.from) → Stored t₅ u.walk (settled_r s (place u.walk) u.from) t₆ → Reads s old tb w (two s read (place w)) (Ok x) t₆
-                two_yes x t₆ e h =
+                pub two_yes : {x : Walk} {t₆ : List ℕ} → x ≡ ran s old u.walk (settled_r s (place u.walk) u.from) → Stored t₅ u.walk (settled_r s (place u.walk) u.from) t₆ → Reads s old tb w (two s read (place w)) (Ok x) t₆
+                two_yes {x} {t₆} e h =
                     let c = two_next s old read far (page w tb) ready (page b t₁) pre (page v.walk t₂) v.from valued (page y t₃) keyed (page z t₃) colon (page u.walk t₅) u.from valued₅ (page x t₆) (settled_on s old t₅ u.walk x t₆ u.from e h) in
                     yes_read s old tb w (two s read (place w)) x t₆ (record { what = c.what; next = c.next; is = c.is; so = c.so.0 })
 
 -- ---- a value with its comments: b behind its prefix comments
 
 module _ (s old : List ℕ) (depth : ℕ) (w : Walk) (tb : List ℕ) (ready : Ready s w.cursor w.count) where
-  pub value_deep : depth ≡ 0 → (x : Stop) → x ≡ stop_of (refused_at TooDeep (place w)) w.cursor.end → ReadsItem s old tb w (reader depth s (place w)) (Err x) tb
+  pub value_deep : depth ≡ 0 → {x : Stop} → x ≡ stop_of (refused_at TooDeep (place w)) w.cursor.end → ReadsItem s old tb w (reader depth s (place w)) (Err x) tb
   unfolding reader
-  value_deep e x q = no_item s old tb w (reader depth s (place w)) x tb (record { why = refused_at TooDeep (place w); far = w.cursor.end; is = rw e refl; so = q })
+  value_deep e {x} q = no_item s old tb w (reader depth s (place w)) x tb (record { why = refused_at TooDeep (place w); far = w.cursor.end; is = rw e refl; so = q })
 
-  module _ (more : depth ≡ 0 → ⊥) (b : Walk) (t₁ : List ℕ) (e₁ : b ≡ ran s old w (run s 7 (place w))) (h₁ : Stored tb w (run s 7 (place w)) t₁) where
+  module _ (more : depth ≡ 0 → ⊥) {b : Walk} (t₁ : List ℕ) (e₁ : b ≡ ran s old w (run s 7 (place w))) (h₁ : Stored tb w (run s 7 (place w)) t₁) where
     abbrev inner : Span → Out Item
     inner = below (depth - 1) s
 
@@ -254,13 +243,13 @@ module _ (s old : List ℕ) (depth : ℕ) (w : Walk) (tb : List ℕ) (ready : Re
     by_item : reader depth s (place w) ≡ item_at s inner (place w)
     by_item = reader_in depth s (place w) more
 
-    module _ (r : Result Walk Stop) (e₂ : r ≡ bared s old b (bare_at s inner (place b))) where
-      pub value_no : (x : Stop) → r ≡ Err x → (t : List ℕ) → ReadsItem s old tb w (reader depth s (place w)) (Err x) t
-      value_no x q t =
+    module _ {r : Result Walk Stop} (e₂ : r ≡ bared s old b (bare_at s inner (place b))) where
+      pub value_no : {x : Stop} → r ≡ Err x → (t : List ℕ) → ReadsItem s old tb w (reader depth s (place w)) (Err x) t
+      value_no {x} q t =
           no_item s old tb w (reader depth s (place w)) x t
           (passed (read_no s old t₁ b (bare_at s inner (place b)) r e₂ x q) (λ k p h. by_item ∙ value_refused s old inner (page w tb) (page b t₁) prefix h))
 
-      module _ (x : Walk) (q : r ≡ Ok x) (t₂ : List ℕ) (h₂ : Stored t₁ b (bare_at s inner (place b)) t₂) where
+      module _ {x : Walk} (q : r ≡ Ok x) (t₂ : List ℕ) (h₂ : Stored t₁ b (bare_at s inner (place b)) t₂) where
         bare : Came (bare_at s inner (place b)) (Leads s old t₁ b x t₂)
         bare = read_yes s old t₁ b (bare_at s inner (place b)) r t₂ e₂ h₂ x q
 
@@ -269,29 +258,33 @@ module _ (s old : List ℕ) (depth : ℕ) (w : Walk) (tb : List ℕ) (ready : Re
             let f = subst (λ (o : Out Records). Far s (place b) o) bare.is (bare_far s inner (below_far (depth - 1) s) (place b) core_ready.bound) in
             ready_at s b.cursor b.count 0 x.cursor bare.next core_ready (ap (λ (σ : Page). σ.cur.cursor) bare.so ∙ emit_cursor s old b bare.what bare.next) f.2 (omega arith)
 
-        pub value_yes : (e : Cursor) → e ≡ cursor_at s (suffix_end s (place x)) → (y : Walk) → y ≡ set_cursor x e → ReadsItem s old tb w (reader depth s (place w)) (past y x.cursor.end) t₂
-        value_yes e g y f =
+        pub value_yes : {e : Cursor} → e ≡ cursor_at s (suffix_end s (place x)) → {y : Walk} → y ≡ set_cursor x e → ReadsItem s old tb w (reader depth s (place w)) (past y x.cursor.end) t₂
+        value_yes {e} g {y} f =
             let c = value_is s old inner (page w tb) (page b t₁) prefix (page x t₂) bare (page y t₂) (both (f ∙ ap (set_cursor x) g) refl) in
             yes_item s old tb w (reader depth s (place w)) (record { walk = y; from = x.cursor.end }) t₂ (record { what = c.what; next = c.next; is = by_item ∙ c.is; so = c.so })
 
--- ---- a container: d behind what opens it, x behind its inside
+-- ---- a container: l is what opens it, d stands behind that, x behind the inside
+
+pub record Over (s : List ℕ) (w : Walk) (l : Span) : Type 0 where
+  pub on : w.cursor.end < l.end
+  pub spot : Spot s l
 
 module _ (s old tb : List ℕ) (w : Walk) (ready : Ready s w.cursor w.count) (step : Span → Out Records) (reach : (p : Span) → Spot s p → Reach length s p (inside s step p))
-    (l : Span) (gl : w.cursor.end < l.end) (spot : Spot s l) (d : Walk) (e : d ≡ entered s w l) where
+    {l : Span} (over : Over s w l) {d : Walk} (e : d ≡ entered s w l) where
   pub inner_ready : Ready s d.cursor d.count
-  inner_ready = entered_ready s old (page w tb) l (page d tb) (both e refl) ready gl spot
+  inner_ready = entered_ready s old (page w tb) l (page d tb) (both e refl) ready over.on over.spot
 
   at_l : inside s step (place d) ≡ inside s step l
   at_l = ap (λ (y : Walk). inside s step (place y)) e
 
-  module _ (r : Result Walk Stop) (e₁ : r ≡ bared s old d (inside s step (place d))) where
-    pub container_no : (k : ℕ) (close : TokenKind) (start name : ℕ) (x : Stop) → r ≡ Err x → (t : List ℕ) → Reads s old tb w (closed s k close start name (inside s step l)) (Err x) t
+  module _ {r : Result Walk Stop} (e₁ : r ≡ bared s old d (inside s step (place d))) where
+    pub container_no : (k : ℕ) (close : TokenKind) (start name : ℕ) {x : Stop} → r ≡ Err x → (t : List ℕ) → Reads s old tb w (closed s k close start name (inside s step l)) (Err x) t
     unfolding closed
-    container_no k close start name x q t =
+    container_no k close start name {x} q t =
         no_read s old tb w (closed s k close start name (inside s step l)) x t
         (passed (read_no s old tb d (inside s step (place d)) r e₁ x q) (λ n p h. ap (λ (o : Out Records). closed s k close start name o) (sym at_l ∙ h)))
 
-    module _ (x : Walk) (q : r ≡ Ok x) (t₁ : List ℕ) (h₁ : Stored tb d (inside s step (place d)) t₁) where
+    module _ {x : Walk} (q : r ≡ Ok x) (t₁ : List ℕ) (h₁ : Stored tb d (inside s step (place d)) t₁) where
       within : Came (inside s step (place d)) (Leads s old tb d x t₁)
       within = read_yes s old tb d (inside s step (place d)) r t₁ e₁ h₁ x q
 
@@ -304,16 +297,16 @@ module _ (s old tb : List ℕ) (w : Walk) (ready : Ready s w.cursor w.count) (st
       x_place : place x ≡ within.next
       x_place = ap (λ (σ : Page). place_of σ.cur.cursor) within.so ∙ ap place_of (emit_cursor s old d within.what within.next)
 
-      pub close_opens : (b : Begun) → b.base ≤ w.count → b.start ≤ l.end → b.name ≤ l.end → Open x b
-      close_opens b f g n =
+      pub close_opens : (k : RecordKind) (b : Begun) (start name : ℕ) → b ≡ begun k w.count start name → start ≤ l.end → name ≤ l.end → Open x b
+      close_opens k b start name f g n =
           let c = ap (λ (σ : Page). σ.cur.count) within.so ∙ emit_count s old d within.what within.next in
           let m = ap (λ (p : Span). p.end) x_place in
           let dc = ap (λ (y : Walk). y.count) e in
           let de = ap (λ (y : Walk). y.cursor.end) e in
           record {
-            base = omega (arith, c, dc, f);
-            start = omega (arith, m, de, got_far.0, g);
-            name = omega (arith, m, de, got_far.0, n);
+            base = omega (arith, c, dc, ap (λ (y : Begun). y.base) f);
+            start = omega (arith, m, de, got_far.0, g, ap (λ (y : Begun). y.start) f);
+            name = omega (arith, m, de, got_far.0, n, ap (λ (y : Begun). y.name) f);
             few = omega (arith, close_ready.few, close_ready.bound.within, close_ready.short);
             short = omega (arith, close_ready.bound.within, close_ready.short);
           }
@@ -349,34 +342,31 @@ unfolding leaf_at bared
 leaf_reads s old tb w k x e t h = record { walk = ap Ok e; stored = h }
 
 -- the next token is there
+pub some_token : {o : Option TokenKind} {k : TokenKind} → o ≡ Some k → IsSome o
+some_token e = rw e refl
+
 module _ (s : List ℕ) (w : Walk) (ready : Ready s w.cursor w.count) where
   pub starts : (b : Begun) (k : RecordKind) → b ≡ begun k w.count w.cursor.peeked.start 0 → b ≡ begun k w.count (next_span s (place w)).start 0
   starts b k e = e ∙ ap (λ (t : PlacedToken). begun k w.count t.start 0) (peeks s w.cursor w.count ready)
-
-  module _ (k : TokenKind) (e : w.cursor.peeked.kind ≡ Some k) where
-    pub some_token : IsSome w.cursor.peeked.kind
-    some_token = rw e refl
-
-    pub token_code : kind_at s (place w) ≡ kind_number k
-    token_code = sym (peeks_kind s w.cursor w.count ready) ∙ code_some w.cursor.peeked.kind k e
 
   module _ (tok : IsSome w.cursor.peeked.kind) where
     there : Gets s (place w)
     there = peeks_gets s w.cursor w.count ready tok
 
-    pub token_on : w.cursor.end < (next_span s (place w)).end
-    token_on = omega (arith, there.behind, there.long)
+    pub over_token : Over s w (next_span s (place w))
+    over_token = record { on = omega (arith, there.behind, there.long); spot = there.bound }
 
-    pub token_spot : Spot s (next_span s (place w))
-    token_spot = there.bound
+    pub token_long : (next_span s (place w)).start ≤ (next_span s (place w)).end
+    token_long = omega (arith, there.long)
 
-    pub token_long : (next_span s (place w)).start < (next_span s (place w)).end
-    token_long = there.long
+  module _ (k : TokenKind) (e : w.cursor.peeked.kind ≡ Some k) where
+    pub token_code : kind_at s (place w) ≡ kind_number k
+    token_code = sym (peeks_kind s w.cursor w.count ready) ∙ code_some w.cursor.peeked.kind k e
 
 -- ---- a string: d behind it
 
 module _ (s old tb : List ℕ) (w : Walk) (ready : Ready s w.cursor w.count) (tok : IsSome w.cursor.peeked.kind) (read : Span → Out Item) (far : (p : Span) → Spot s p → FarItem s p (read p))
-    (d : Walk) (e : d ≡ entered s w (next_span s (place w))) where
+    {d : Walk} (e : d ≡ entered s w (next_span s (place w))) where
   l₁ : Span
   l₁ = next_span s (place w)
 
@@ -384,7 +374,7 @@ module _ (s old tb : List ℕ) (w : Walk) (ready : Ready s w.cursor w.count) (to
   at_d = ap (λ (y : Walk). place y) e
 
   pub string_ready : Ready s d.cursor d.count
-  string_ready = inner_ready s old tb w ready (one s read) (list_reach s read far) (next_span s (place w)) (token_on s w ready tok) (token_spot s w ready tok) d e
+  string_ready = inner_ready s old tb w ready (one s read) (list_reach s read far) (over_token s w ready tok) e
 
   pub string_plain : (kind_at s (place d) ≡ 6 → ⊥) → (b : Begun) → b ≡ begun kind.String w.count w.cursor.peeked.start 0 → (x : Walk) → x ≡ ended_at d old b → (t : List ℕ) → t ≡ sets tb (5 * b.base) (record_words d b)
       → Reads s old tb w (string_at s read (place w)) (Ok x) t
@@ -393,37 +383,37 @@ module _ (s old tb : List ℕ) (w : Walk) (ready : Ready s w.cursor w.count) (to
       subst (λ (o : Out Records). Reads s old tb w o (Ok x) t) (sym (string_leaf s read (place w) (λ z. a (ap (kind_at s) at_d ∙ z))))
       (leaf_reads s old tb w 3 x (ap (λ (σ : Page). σ.cur) c) t (ap (λ (σ : Page). σ.tab) c))
 
-  module _ (a : kind_at s (place d) ≡ 6) (z : Walk) (f : z ≡ moved s d (next_span s (place d))) where
+  module _ (a : kind_at s (place d) ≡ 6) {z : Walk} (f : z ≡ moved s d (next_span s (place d))) where
     abbrev l₂ : Span
     l₂ = next_span s (next_span s (place w))
 
     paren : Gets s (next_span s (place w))
-    paren = gets s (next_span s (place w)) (token_spot s w ready tok) (omega (arith, a, ap (kind_at s) at_d))
+    paren = gets s (next_span s (place w)) (over_token s w ready tok).spot (omega (arith, a, ap (kind_at s) at_d))
 
     entered_both : z ≡ entered s w (next_span s (next_span s (place w)))
     entered_both = f ∙ ap (λ (y : Walk). moved s y (next_span s (place y))) e
 
-    on : w.cursor.end < l₂.end
-    on = omega (arith, token_on s w ready tok, paren.behind, paren.long)
+    over : Over s w l₂
+    over = record { on = omega (arith, (over_token s w ready tok).on, paren.behind, paren.long); spot = paren.bound }
 
     pub variant_ready : Ready s z.cursor z.count
-    variant_ready = inner_ready s old tb w ready (one s read) (list_reach s read far) l₂ on paren.bound z entered_both
+    variant_ready = inner_ready s old tb w ready (one s read) (list_reach s read far) over entered_both
 
     is_variant : string_at s read (place w) ≡ variant_at s read (place w)
     is_variant = string_variant s read (place w) (sym (ap (kind_at s) at_d) ∙ a)
 
-    module _ (r : Result Walk Stop) (e₁ : r ≡ bared s old z (inside s (one s read) (place z))) where
-      pub variant_no : (x : Stop) → r ≡ Err x → (t : List ℕ) → Reads s old tb w (string_at s read (place w)) (Err x) t
+    module _ {r : Result Walk Stop} (e₁ : r ≡ bared s old z (inside s (one s read) (place z))) where
+      pub variant_no : {x : Stop} → r ≡ Err x → (t : List ℕ) → Reads s old tb w (string_at s read (place w)) (Err x) t
       unfolding variant_at
-      variant_no x q t =
+      variant_no {x} q t =
           subst (λ (o : Out Records). Reads s old tb w o (Err x) t) (sym is_variant)
-          (container_no s old tb w ready (one s read) (list_reach s read far) l₂ on paren.bound z entered_both r e₁ 6 CloseParen (next_span s (place w)).start (next_span s (place w)).end x q t)
+          (container_no s old tb w ready (one s read) (list_reach s read far) over entered_both e₁ 6 CloseParen (next_span s (place w)).start (next_span s (place w)).end q t)
 
-      module _ (x : Walk) (q : r ≡ Ok x) (t₁ : List ℕ) (h₁ : Stored tb z (inside s (one s read) (place z)) t₁) where
+      module _ {x : Walk} (q : r ≡ Ok x) (t₁ : List ℕ) (h₁ : Stored tb z (inside s (one s read) (place z)) t₁) where
         pub variant_close : Ready s x.cursor x.count
-        variant_close = close_ready s old tb w ready (one s read) (list_reach s read far) l₂ on paren.bound z entered_both r e₁ x q t₁ h₁
+        variant_close = close_ready s old tb w ready (one s read) (list_reach s read far) over entered_both e₁ q t₁ h₁
 
-        module _ (b : Begun) (g : b ≡ begun kind.Variant w.count w.cursor.peeked.start d.cursor.end) where
+        module _ {b : Begun} (g : b ≡ begun kind.Variant w.count w.cursor.peeked.start d.cursor.end) where
           b_is : b ≡ begun kind.Variant w.count (next_span s (place w)).start (next_span s (place w)).end
           b_is =
               g
@@ -432,16 +422,14 @@ module _ (s old tb : List ℕ) (w : Walk) (ready : Ready s w.cursor w.count) (to
 
           pub variant_opens : Open x b
           variant_opens =
-              close_opens s old tb w ready (one s read) (list_reach s read far) l₂ on paren.bound z entered_both r e₁ x q t₁ h₁ b
-              (omega (arith, ap (λ (c : Begun). c.base) b_is))
-              (omega (arith, ap (λ (c : Begun). c.start) b_is, token_long s w ready tok, paren.behind, paren.long))
-              (omega (arith, ap (λ (c : Begun). c.name) b_is, paren.behind, paren.long))
+              close_opens s old tb w ready (one s read) (list_reach s read far) over entered_both e₁ q t₁ h₁ kind.Variant b (next_span s (place w)).start (next_span s (place w)).end b_is
+              (omega (arith, token_long s w ready tok, paren.behind, paren.long)) (omega (arith, paren.behind, paren.long))
 
           pub variant_yes : (r₂ : Result Walk Stop) → r₂ ≡ closed_at s old x (expect s CloseParen (place x)) b → (t₂ : List ℕ) → StoredEnd s t₁ x (expect s CloseParen (place x)) b t₂ → Reads s old tb w (string_at s read (place w)) r₂ t₂
           unfolding variant_at
           variant_yes r₂ m t₂ n =
               subst (λ (o : Out Records). Reads s old tb w o r₂ t₂) (sym is_variant)
-              (container_yes s old tb w ready (one s read) (list_reach s read far) l₂ on paren.bound z entered_both r e₁ x q t₁ h₁ kind.Variant CloseParen (next_span s (place w)).start (next_span s (place w)).end b b_is r₂ t₂ m n)
+              (container_yes s old tb w ready (one s read) (list_reach s read far) over entered_both e₁ q t₁ h₁ kind.Variant CloseParen (next_span s (place w)).start (next_span s (place w)).end b b_is r₂ t₂ m n)
 
 -- ---- no value begins here
 

@@ -1,16 +1,8 @@
 use Rattle.eon_spec.specs.declared.refusal.Reason.TheVariants.{MissingValue}
-use Rattle.std.specs.Prelude.{Option, None, Some}
+use Rattle.std.proofs.Common.{◌≡◌, ℕ, zero, suc, ◌+◌, ◌<◌, ◌≤◌, Bool, true, false, cond, eqb, List, [], ◌∷◌, ◌++◌, length, Some, None, Option, sym, refl, ap, ◌∙◌, append_assoc, append-nil, not-suc-le-zero, arith, le-ltb, lt-ltb, ne_eqb, eqb-true}
+use Rattle.std.proofs.lemmas.Bool.{eqb-false}
 -- Reading by places is reading by the list of tokens: the walk gives the records of the trees that `Parse` gives, and refuses as it does.
 -- Assumes nothing.
-use mathlib.Core.Path.{◌≡◌, refl, sym, ap, ◌∙◌}
-use mathlib.Core.Bool.{Bool, true, false, cond}
-use mathlib.Core.List.{List, [], ◌∷◌, ◌++◌, append_assoc, append-nil}
-use Prim.Native.Nat.{ℕ, zero, suc, ◌+◌, ◌≤◌, ◌<◌}
-use native.Mathlib.Omega.{arith}
-use native.Mathlib.Nat.{not-suc-le-zero}
-use lib.ListN.{length}
-use lib.Dec.{eqb}
-use borrow.Author.Tests.{ne_eqb, eqb-true, eqb-false, lt-ltb, le-ltb}
 use Rattle.eon_spec.specs.Base.{elem}
 use Rattle.eon_spec.specs.declared.token_kind.TokenKind.{TokenKind}
 use Rattle.eon_spec.specs.declared.token_kind.TokenKind.TheVariants.{Invalid, Comment, OpenList, CloseList, OpenBrace, CloseBrace, OpenParen, CloseParen, Colon, Comma, Identifier, Number, DoubleQuotedString, SingleQuotedString, MultilineBasicString, MultilineLiteralString}
@@ -600,32 +592,34 @@ module _ (s : List ℕ) where
     abbrev Valued : ℕ → TokenValue → Records → Span → Type 0
     Valued start v ts n = value_records (span start n.end) v ≡ ts
 
+    -- a container: its inside, and what closes it
+    closed_same : {L : Type 0} (P : L → Records → Span → Type 0) (r : Read L) (o : Out Records) (make : L → TokenValue) (k : ℕ) (close : TokenKind) (start name : ℕ) → Same P r o
+        → ((a : L) (ts : Records) (n m : Span) → P a ts n → Valued start (make a) (header k start name m.end ts ∷ ts) m)
+        → Same (Valued start) (bindP r λ a c1. bindP (consume_token close c1) λ _ c2. read (make a) c2) (closed s k close start name o)
+    unfolding closed
+    closed_same P r o make k close start name inner made =
+        same_bind P (Valued start) r o (λ a c1. bindP (consume_token close c1) λ _ c2. read (make a) c2) (λ ts p. bind (expect s close p) (λ _ q. got (header k start name q.end ts ∷ ts) q)) inner λ a ts n p q sp h.
+        same_bind Both (Valued start) (consume_token close (C n)) (expect s close n) (λ _ c2. read (make a) c2) (λ _ q. got (header k start name q.end ts ∷ ts) q) (consume_same close n sp) λ u u' m pm qm spm _.
+        fine (make a) (header k start name m.end ts ∷ ts) m refl refl spm (made a ts n m h)
+
     list_closed : (start : ℕ) (l : Span) → Spot s l
         → Same (Valued start) (bindP (list_inside value (C l)) λ x c1. bindP (consume_token CloseList c1) λ _ c2. read (list_of x.values x.closing) c2) (closed s 4 CloseList start 0 (inside s (one s by) l))
-    unfolding closed value_records
+    unfolding value_records
     list_closed start l b =
-        same_bind (Listed []) (Valued start) (list_inside value (C l)) (inside s (one s by) l)
-        (λ x c1. bindP (consume_token CloseList c1) λ _ c2. read (list_of x.values x.closing) c2) (λ ts p. bind (expect s CloseList p) (λ _ q. got (header 4 start 0 q.end ts ∷ ts) q)) (list_inside_lem l b) λ x ts n p q sp h.
-        same_bind Both (Valued start) (consume_token CloseList (C n)) (expect s CloseList n) (λ _ c2. read (list_of x.values x.closing) c2) (λ _ q. got (header 4 start 0 q.end ts ∷ ts) q) (consume_same CloseList n sp) λ u u' m pm qm spm _.
-        fine (list_of x.values x.closing) (header 4 start 0 m.end ts ∷ ts) m refl refl spm (ap (λ (y : Records). header 4 start 0 m.end y ∷ y) h)
+        closed_same (Listed []) (list_inside value (C l)) (inside s (one s by) l) (λ x. list_of x.values x.closing) 4 CloseList start 0 (list_inside_lem l b) λ x ts n m h. ap (λ (y : Records). header 4 start 0 m.end y ∷ y) h
 
     map_closed : (start : ℕ) (l : Span) → Spot s l
         → Same (Valued start) (bindP (map_inside value (C l)) λ x c1. bindP (consume_token CloseBrace c1) λ _ c2. read (map_of x.key_values x.closing) c2) (closed s 5 CloseBrace start 0 (inside s (two s by) l))
-    unfolding closed value_records
+    unfolding value_records
     map_closed start l b =
-        same_bind (Mapped []) (Valued start) (map_inside value (C l)) (inside s (two s by) l)
-        (λ x c1. bindP (consume_token CloseBrace c1) λ _ c2. read (map_of x.key_values x.closing) c2) (λ ts p. bind (expect s CloseBrace p) (λ _ q. got (header 5 start 0 q.end ts ∷ ts) q)) (map_inside_lem l b) λ x ts n p q sp h.
-        same_bind Both (Valued start) (consume_token CloseBrace (C n)) (expect s CloseBrace n) (λ _ c2. read (map_of x.key_values x.closing) c2) (λ _ q. got (header 5 start 0 q.end ts ∷ ts) q) (consume_same CloseBrace n sp) λ u u' m pm qm spm _.
-        fine (map_of x.key_values x.closing) (header 5 start 0 m.end ts ∷ ts) m refl refl spm (ap (λ (y : Records). header 5 start 0 m.end y ∷ y) h)
+        closed_same (Mapped []) (map_inside value (C l)) (inside s (two s by) l) (λ x. map_of x.key_values x.closing) 5 CloseBrace start 0 (map_inside_lem l b) λ x ts n m h. ap (λ (y : Records). header 5 start 0 m.end y ∷ y) h
 
     variant_closed : (start : ℕ) (name : Slice) (l : Span) → Spot s l
         → Same (Valued start) (bindP (list_inside value (C l)) λ x c1. bindP (consume_token CloseParen c1) λ _ c2. read (variant_of name x.values x.closing) c2) (closed s 6 CloseParen start name.span.end (inside s (one s by) l))
-    unfolding closed value_records
+    unfolding value_records
     variant_closed start name l b =
-        same_bind (Listed []) (Valued start) (list_inside value (C l)) (inside s (one s by) l)
-        (λ x c1. bindP (consume_token CloseParen c1) λ _ c2. read (variant_of name x.values x.closing) c2) (λ ts p. bind (expect s CloseParen p) (λ _ q. got (header 6 start name.span.end q.end ts ∷ ts) q)) (list_inside_lem l b) λ x ts n p q sp h.
-        same_bind Both (Valued start) (consume_token CloseParen (C n)) (expect s CloseParen n) (λ _ c2. read (variant_of name x.values x.closing) c2) (λ _ q. got (header 6 start name.span.end q.end ts ∷ ts) q) (consume_same CloseParen n sp) λ u u' m pm qm spm _.
-        fine (variant_of name x.values x.closing) (header 6 start name.span.end m.end ts ∷ ts) m refl refl spm (ap (λ (y : Records). header 6 start name.span.end m.end y ∷ y) h)
+        closed_same (Listed []) (list_inside value (C l)) (inside s (one s by) l) (λ x. variant_of name x.values x.closing) 6 CloseParen start name.span.end (list_inside_lem l b)
+        λ x ts n m h. ap (λ (y : Records). header 6 start name.span.end m.end y ∷ y) h
 
     module _ (t : Token) (l : Span) (b : Spot s l) (g : Gets s l) (p : span_of t ≡ next_span s l) where
       -- the value by its token's number

@@ -1,13 +1,7 @@
 -- What the small functions' answers are, over plain variables. Assumes nothing.
-use Rattle.std.specs.Prelude.{Some, None, IsSome, Err, Ok}
-use mathlib.Core.Path.{◌≡◌, refl, sym, ap, ◌∙◌, subst}
-use mathlib.Core.Bool.{Bool, true, false, not, cond}
-use mathlib.Core.List.{List, [], ◌∷◌}
-use Prim.Native.Nat.{ℕ, ◌+◌, ◌-◌, ◌*◌, ◌≤◌, ◌<◌}
-use native.Mathlib.Omega.{arith}
+use Rattle.std.proofs.Common.{◌≡◌, ℕ, ◌+◌, ◌-◌, ◌*◌, ◌<◌, ◌≤◌, Bool, true, false, cond, not, eqb, List, [], ◌∷◌, IsSome, Some, None, Ok, Err, sym, refl, ap, ◌∙◌, subst, arith, le-ltb, lt-ltb, eq-eqb, ne_eqb, eqb-true}
+use Rattle.std.proofs.lemmas.Bool.{eqb-false}
 use lib.Seq.{sets}
-use lib.Dec.{eqb}
-use borrow.Author.Tests.{eq-eqb, ne_eqb, eqb-true, eqb-false, lt-ltb, le-ltb}
 use Rattle.eon_spec.specs.Tree.{Span}
 use Rattle.eon_spec.specs.Token.{kind_number}
 use Rattle.eon_spec.specs.declared.refusal.Reason.TheVariants.{Stray, CutOff, Mismatch}
@@ -112,17 +106,17 @@ module _ (s old tb : List ℕ) (w : Walk) (b : Begun) where
   pub close_no : (o : Out (Unit {0})) (x : Stop) → Err x ≡ expected s w o → Err x ≡ closed_at s old w o b
   unfolding expected closed_at
   close_no (refuse r p) x e = ap Err cc
-  close_no (got u l) x e = let z : ◌≡◌ {A = ℕ} 0 1 = cc in absurd (omega arith)
+  close_no (got u l) x e = cc
 
   pub close_stored_no : (o : Out (Unit {0})) (x : Stop) → Err x ≡ expected s w o → (tb' : List ℕ) → StoredEnd s tb w o b tb'
   unfolding expected
   close_stored_no (refuse r p) x e tb' = tt
-  close_stored_no (got u l) x e tb' = let z : ◌≡◌ {A = ℕ} 0 1 = cc in absurd (omega arith)
+  close_stored_no (got u l) x e tb' = cc
 
   module _ (x : Walk) where
     pub close_ok : (o : Out (Unit {0})) → Ok x ≡ expected s w o → (y : Walk) → y ≡ ended_at x old b → Ok y ≡ closed_at s old w o b
     unfolding expected closed_at
-    close_ok (refuse r p) e y f = let z : ◌≡◌ {A = ℕ} 0 1 = cc in absurd (omega arith)
+    close_ok (refuse r p) e y f = cc
     close_ok (got u l) e y f = let q : x ≡ moved s w l = cc in ap Ok (f ∙ ap (λ (v : Walk). ended_at v old b) q)
 
     pub close_stored : (o : Out (Unit {0})) → Ok x ≡ expected s w o → (tb' : List ℕ) → tb' ≡ sets tb (5 * b.base) (record_words x b) → StoredEnd s tb w o b tb'
@@ -136,7 +130,7 @@ unfolding expected
 opens_behind s w b h a k x e = go (expect s k (place w)) (expect_far s k (place w) h.bound) e
   where
     go : (o : Out (Unit {0})) → Reach (λ _. 1) s (place w) o → Ok x ≡ expected s w o → Open x b
-    go (refuse r p) f e = let z : ◌≡◌ {A = ℕ} 0 1 = cc in absurd (omega arith)
+    go (refuse r p) f e = cc
     go (got u l) f e =
         let q : x ≡ moved s w l = cc in
         let n = ap (λ (v : Walk). v.count) q in

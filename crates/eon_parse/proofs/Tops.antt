@@ -1,13 +1,6 @@
 -- A whole text, over plain variables. Assumes nothing.
-use Rattle.std.specs.Prelude.{Result, Ok, Err}
-use mathlib.Core.Path.{◌≡◌, refl, sym, ap, ◌∙◌, subst}
-use mathlib.Core.Bool.{Bool, true, false, cond}
-use mathlib.Core.List.{List, [], ◌∷◌}
-use Prim.Native.Nat.{ℕ, ◌+◌, ◌-◌, ◌*◌, ◌≤◌}
-use native.Mathlib.Omega.{arith}
-use lib.ListN.{length, take, drop}
+use Rattle.std.proofs.Common.{◌≡◌, ℕ, ◌+◌, ◌-◌, ◌*◌, ◌≤◌, Bool, true, false, cond, eqb, List, [], ◌∷◌, length, take, drop, Ok, Err, Result, sym, refl, ap, ◌∙◌, subst, arith}
 use lib.Seq.{sets, take-append_seam}
-use lib.Dec.{eqb}
 use Rattle.eon_spec.specs.Utf8.{is_utf8}
 use Rattle.eon_spec.specs.Tree.{Span}
 use Rattle.eon_spec.specs.RecordKind.{word_of}
@@ -181,11 +174,11 @@ module _ (s old tb : List ℕ) (w : Walk) (st : Starts s w) where
         let c : rb ≡ f.why = cc in
         let d : lb ≡ f.far = cc in
         record { answer = ap Err (e ∙ ap (further_by a) (g ∙ ap (λ (q : Refusal). stop_of q f.far) (sym c) ∙ ap (stop_of rb) (sym d))); held = tt }
-    several_failed (got ts l) b f r e = let g = f.is in let z : ◌≡◌ {A = ℕ} 0 1 = cc in absurd (omega arith)
+    several_failed (got ts l) b f r e = let g = f.is in cc
 
     several_came : (o : Out Records) (x : Walk) → Came (topped (length s) 4 o) (Leads s old tb w x tb') → (r : Result Top Refusal) → r ≡ ended_by x form.Several → Tells s old tb w (several_by s a.refusal a.consumed o) r tb'
     unfolding several_by
-    several_came (refuse rb lb) x c r e = let g = c.is in let z : ◌≡◌ {A = ℕ} 0 1 = cc in absurd (omega arith)
+    several_came (refuse rb lb) x c r e = let g = c.is in cc
     several_came (got ts l) x c r e =
         let g : Out.got (header 4 0 0 (length s) ts ∷ ts) l ≡ Out.got c.what c.next = c.is in
         let p : header 4 0 0 (length s) ts ∷ ts ≡ c.what = cc in
@@ -265,7 +258,7 @@ module _ (s old tb : List ℕ) (w : Walk) (st : Starts s w) where
   module _ (o : Result Walk Stop) (e : o ≡ bared s old w (topped (length s) 5 (inside s (two s (below 128 s)) (span 0 0)))) where
     map_came : (m : Out Records) (x : Walk) (t : List ℕ) → Came (topped (length s) 5 m) (Leads s old tb w x t) → (r : Result Top Refusal) → r ≡ ended_by x form.Map → Tells s old tb w (map_by s m) r t
     unfolding map_by
-    map_came (refuse rb lb) x t c r e = let g = c.is in let z : ◌≡◌ {A = ℕ} 0 1 = cc in absurd (omega arith)
+    map_came (refuse rb lb) x t c r e = let g = c.is in cc
     map_came (got ts l) x t c r e =
         let g : Out.got (header 5 0 0 (length s) ts ∷ ts) l ≡ Out.got c.what c.next = c.is in
         let p : header 5 0 0 (length s) ts ∷ ts ≡ c.what = cc in
@@ -279,7 +272,7 @@ module _ (s old tb : List ℕ) (w : Walk) (st : Starts s w) where
 
     map_failed : (m : Out Records) (a : Stop) → Failed (topped (length s) 5 m) a → map_by s m ≡ list_by s a.refusal a.consumed (one s (below 128 s) (span 0 0))
     unfolding map_by
-    map_failed (got ts l) a f = let g = f.is in let z : ◌≡◌ {A = ℕ} 0 1 = cc in absurd (omega arith)
+    map_failed (got ts l) a f = let g = f.is in cc
     map_failed (refuse ra la) a f =
         let z : Out.refuse ra la ≡ Out.refuse f.why f.far = f.is in
         let c : ra ≡ f.why = cc in

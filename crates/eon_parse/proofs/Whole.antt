@@ -1,13 +1,5 @@
-use Rattle.std.specs.Prelude.{None}
+use Rattle.std.proofs.Common.{◌≡◌, ℕ, zero, suc, ◌<◌, Bool, true, false, cond, eqb, ltb, List, [], ◌∷◌, ◌++◌, length, None, sym, refl, ap, ◌∙◌, append-nil, arith, ne_eqb}
 -- A whole text read by places is the text read by the definition. Assumes nothing.
-use mathlib.Core.Path.{◌≡◌, refl, sym, ap, ◌∙◌}
-use mathlib.Core.Bool.{Bool, true, false, cond}
-use mathlib.Core.List.{List, [], ◌∷◌, ◌++◌, append-nil}
-use Prim.Native.Nat.{ℕ, zero, suc, ◌<◌}
-use native.Mathlib.Omega.{arith}
-use lib.ListN.{length}
-use lib.Dec.{eqb, ltb}
-use borrow.Author.Tests.{ne_eqb}
 use Rattle.eon_spec.specs.Utf8.{is_utf8}
 use Rattle.eon_spec.specs.Token.{Token, kind_number, tokens}
 use Rattle.eon_spec.specs.Tree.{Span, Slice, TokenTree, TokenTrees, KeyValues, tree, list_of, map_of, no_trees, ◌∷ᵗ◌}
@@ -93,14 +85,14 @@ module _ (s : List ℕ) (u8 : is_utf8 s ≡ true) where
 
   put_cons : (t : TokenTree) (x : Read TokenList) (l : TokenList) (c : Cursor) → bindP x (put_first t) ≡ read l c → (k : TokenList) × (d : Cursor) × (x ≡ read k d) × (l.values ≡ t ∷ᵗ k.values)
   put_cons t (read k d) l c e = let f : record { values = t ∷ᵗ k.values; closing = k.closing } ≡ l = cc in (k, d, refl, sym (ap (λ (y : TokenList). y.values) f))
-  put_cons t (refused r n) l c e = let z : ◌≡◌ {A = ℕ} 0 1 = cc in absurd (omega arith)
+  put_cons t (refused r n) l c e = cc
 
   more_cons : (f : ℕ) (cs : List Slice) (x : Read TokenTree) (l : TokenList) (c : Cursor) → bindP x (turn_p f cs) ≡ read l c → Cons l.values
   unfolding turn_p
   more_cons f cs (read v c1) l c e =
       let p = put_cons (with_prefix cs (after_comma v c1).0) (list_contents value f (after_comma v c1).1) l c e in
       (with_prefix cs (after_comma v c1).0, p.0.values, p.3)
-  more_cons f cs (refused r n) l c e = let z : ◌≡◌ {A = ℕ} 0 1 = cc in absurd (omega arith)
+  more_cons f cs (refused r n) l c e = cc
 
   -- the first step of the list attempt
   one_is : (r : Ran s start) → one s by start ≡ bind (by r.to) (λ i n. bind (settled s i n) (λ ts m. got (comments 7 r.found ++ ts) m))
@@ -120,8 +112,7 @@ module _ (s : List ℕ) (u8 : is_utf8 s ≡ true) where
       go false q = refl
       go true q =
           let m = many_end s (two s by) (length s) start [] r q in
-          let z : ◌≡◌ {A = ℕ} 0 1 = cc in
-          absurd (omega arith)
+          cc
 
   module _ (ra : Refusal) (la : ℕ) where
     further_is : (q : Refusal) (e : ℕ) → denies (further_paper (refusal_of ra) la (refusal_of q) e) ≡ denies (refusal_of (further ra la q e))

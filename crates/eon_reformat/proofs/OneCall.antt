@@ -1,12 +1,5 @@
 -- Reading and layout in one call: reading into a table of the function's own, and then both memories at once.
-use mathlib.Core.Path.{◌≡◌, refl, sym, ◌∙◌, ap}
-use mathlib.Core.Bool.{Bool, true, false}
-use mathlib.Core.List.{List, ◌++◌}
-use Prim.Native.Nat.{ℕ, ◌*◌, ◌≤◌, ◌<◌}
-use native.Mathlib.Omega.{arith}
-use lib.ListN.{length, take, drop, length-take}
-use lib.Dec.{leb, le→leb}
-use Rattle.std.specs.Prelude.{Result, Ok, Err}
+use Rattle.std.proofs.Common.{◌≡◌, ℕ, ◌*◌, ◌<◌, ◌≤◌, Bool, true, false, leb, List, ◌++◌, length, take, drop, Ok, Err, Result, sym, refl, ap, ◌∙◌, arith, le→leb, length-take}
 use Rattle.eon_spec.specs.Refused.{Refusal, refusal_of}
 use Rattle.eon_spec.specs.declared.refusal.Refusal as refusal
 use Rattle.eon_spec.specs.declared.FormatOptions.{FormatOptions}
@@ -17,7 +10,8 @@ use Rattle.eon_spec.specs.Calls.{Outcome, done, refused_with, then, nowhere, Aft
 use Rattle.eon_laws.proofs.Facts.{true_of, false_of, le_of}
 use Rattle.eon_laws.proofs.Records.{words_length}
 use Rattle.eon_parse.specs.Call.{count_of}
-use Rattle.eon_table.proofs.Finished.{refusal_done, finished_words}
+use Rattle.eon_parse.proofs.Calls.{found, lost}
+use Rattle.eon_table.proofs.Finished.{finished_words}
 use Rattle.eon_format.proofs.Answered.{formatted}
 
 same_answer : {A : Type 0} {a b : Outcome A} {m k : List ℕ} → after a m ≡ after b k → a ≡ b
@@ -38,18 +32,10 @@ known {m} f e = ap (λ (y : Answer). after (outcome_of y) m) (sym f) ∙ e
 module _ (s work : List ℕ) (a : Answer) (e : outcome_of a ≡ then (read_text s) count_of) where
   -- reading answers: its table is finished
   pub read_done : (n : ℕ) → a ≡ Ok n → read_finished s work ≡ read_text s → (t : TokenTree) × (read_finished s work ≡ done t) × (n ≡ length (tree_records t))
-  read_done n k h = go (read_text s) h (ap outcome_of (sym k) ∙ e)
-    where
-      go : (x : Outcome TokenTree) → read_finished s work ≡ x → done n ≡ then x count_of → (t : TokenTree) × (read_finished s work ≡ done t) × (n ≡ length (tree_records t))
-      go (refused_with r) f g = refusal_done r n (sym g)
-      go (done t) f g = (t, f, cc)
+  read_done n k h = found (read_finished s work) n (ap outcome_of (sym k) ∙ e ∙ ap (λ (o : Outcome TokenTree). then o count_of) (sym h))
 
   pub read_refused : (q : refusal.Refusal) → a ≡ Err q → read_text s ≡ refused_with (refusal_of q)
-  read_refused q k = go (read_text s) (ap outcome_of (sym k) ∙ e)
-    where
-      go : (x : Outcome TokenTree) → refused_with (refusal_of q) ≡ then x count_of → x ≡ refused_with (refusal_of q)
-      go (refused_with p) g = ap refused_with cc
-      go (done t) g = refusal_done (refusal_of q) (length (tree_records t)) g
+  read_refused q k = lost (read_text s) (refusal_of q) (ap outcome_of (sym k) ∙ e)
 
 -- ---- refusals before layout
 
@@ -79,7 +65,7 @@ module _ (table out w b : List ℕ) where
     out_refused r out' e = go (leb (length b) (length out)) refl
       where
         go : (x : Bool) → leb (length b) (length out) ≡ x → after_both (refused_with r) table out' ≡ fill_both table out (done (w, b))
-        go true f = refusal_done r (length b) (same_answer (rw (f, fill) at e))
+        go true f = let g = same_answer (rw (f, fill) at e) in cc
         go false f = let g = rw (f, fill) at e in rw (fits, f, fill_both, same_answer g, same_memory g)
 
     out_done : (n : ℕ) (out' : List ℕ) → after (done n) out' ≡ fill out (done (length b, b)) → after_both (done n) (written w table) out' ≡ fill_both table out (done (w, b))
@@ -88,7 +74,7 @@ module _ (table out w b : List ℕ) where
       where
         go : (x : Bool) → leb (length b) (length out) ≡ x → after_both (done n) (written w table) out' ≡ fill_both table out (done (w, b))
         go true f = let g = rw (f, fill) at e in rw (fits, f, fill_both, same_answer g, same_memory g)
-        go false f = refusal_done (nowhere 14) n (sym (same_answer (rw (f, fill) at e)))
+        go false f = let g = same_answer (rw (f, fill) at e) in cc
 
 module _ (s work table : List ℕ) (o : FormatOptions) (out : List ℕ) (n : ℕ) (g : good_settings o ≡ true) (i : (t : TokenTree) × (read_finished s work ≡ done t) × (n ≡ length (tree_records t))) where
   abbrev its_words : List ℕ

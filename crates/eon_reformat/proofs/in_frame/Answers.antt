@@ -1,5 +1,5 @@
 -- The settings first, then the text.
-use Rattle.std.proofs.Common.{◌≡◌, ℕ, Result, Err, ap, ◌∙◌, rules}
+use Rattle.std.proofs.Common.{◌≡◌, ℕ, Err, Result, ap, ◌∙◌, rules}
 use Rattle.eon_spec.specs.declared.refusal.Refusal.{Refusal}
 use Rattle.eon_spec.specs.Calls.{after_both, outcome_of}
 use Rattle.eon_reformat.proofs.OneCall.{read_refused, settings_first, text_second}
@@ -12,6 +12,6 @@ returns-then-not-good_settings g c = let a = c.args in
 pub returns-in_err-n : goal.returns-in_err-n
 returns-in_err-n g c = let a = c.args in
     let r = c.read_once in
-    let e : c.from_residual.result ≡ Err c.in_err-n.field-0.0 = search (rules, c.from_residual.ensures) in
+    let e : c.from_residual.result ≡ Err c.in_err-n.field-0.0 = search rules in
     ap (λ (x : Result ℕ Refusal). after_both (outcome_of x) a.table.now a.out.now) e
     ∙ text_second a.text.now a.table.now a.options.now a.out.now _ (read_refused a.text.now r.new.table r.result r.ensures.count c.in_err-n.field-0.0 c.in_err-n.was) (search rules)

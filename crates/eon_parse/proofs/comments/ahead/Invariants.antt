@@ -1,5 +1,4 @@
-use Prim.Native.Nat.{◌-◌}
-use lib.ListN.{length}
+use Rattle.std.proofs.Common.{◌-◌, length}
 use Rattle.eon_token.specs.Place.{place_of}
 use Rattle.eon_parse.specs.Walk.{Records, comment, no_comment}
 use Rattle.eon_parse.specs.Answer.{Ready}

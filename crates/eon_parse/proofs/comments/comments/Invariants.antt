@@ -1,5 +1,4 @@
-use Prim.Native.Nat.{◌-◌}
-use lib.ListN.{length}
+use Rattle.std.proofs.Common.{◌-◌, length}
 use Rattle.eon_spec.specs.RecordKind.{word_of}
 use Rattle.eon_parse.specs.Walk.{comment, no_comment}
 use Rattle.eon_parse.proofs.Page.{page}

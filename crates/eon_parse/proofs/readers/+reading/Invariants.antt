@@ -1,5 +1,4 @@
-use Prim.Native.Nat.{◌+◌, ◌*◌, ◌-◌}
-use lib.ListN.{length}
+use Rattle.std.proofs.Common.{◌+◌, ◌-◌, ◌*◌, length}
 use Rattle.eon_parse.specs.Walk.{stops, one, two, below}
 use Rattle.eon_parse.proofs.Page.{page}
 use Rattle.eon_parse.proofs.Pass.{Inv}
