@@ -132,10 +132,10 @@ fn core(text: &[u8], old: &[u32], out: &mut [u32], w: Walk, depth: usize) -> Res
                 w.begin(RecordKind::Map),
             )
         }
-        TokenKind::DoubleQuotedString => string(text, old, out, w, depth),
-        TokenKind::SingleQuotedString => string(text, old, out, w, depth),
-        TokenKind::MultilineBasicString => string(text, old, out, w, depth),
-        TokenKind::MultilineLiteralString => string(text, old, out, w, depth),
+        TokenKind::DoubleQuotedString
+        | TokenKind::SingleQuotedString
+        | TokenKind::MultilineBasicString
+        | TokenKind::MultilineLiteralString => string(text, old, out, w, depth),
         _ => Err(no_value(text, w)),
     }
 }

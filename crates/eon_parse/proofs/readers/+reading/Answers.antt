@@ -1,4 +1,4 @@
-use Rattle.std.proofs.Common.{◌≡◌, ℕ, Some, Err, sym, ap, ◌∙◌, arith, rules}
+use Rattle.std.proofs.Common.{◌≡◌, ℕ, Some, Err, sym, ap, ◌∙◌, arith, rules, ⊎_elim}
 use Rattle.eon_spec.specs.declared.token_kind.TokenKind.TheVariants as token
 use Rattle.eon_spec.specs.declared.record_kind.RecordKind.TheVariants as kind
 use Rattle.eon_parse.specs.declared.walk.Begun.{Begun}
@@ -373,50 +373,20 @@ core-returns-in_ok-i-in-OpenBrace-clause-stored t c =
 pub core-returns-in-DoubleQuotedString-clause-walk : goal.core-returns-in-DoubleQuotedString-clause-walk
 unfolding strings
 core-returns-in-DoubleQuotedString-clause-walk t c =
-    let k : c.args.w.cursor.peeked.kind ≡ Some token.DoubleQuotedString = sym c.kind.ensures ∙ c.in-Some.is ∙ ap Some c.in-DoubleQuotedString.is in
-    (core_by _ _ _ _ _ _ _ 12 (token_code _ c.args.w c.requires token.DoubleQuotedString k) (record { walk = c.string.ensures.walk; stored = c.string.ensures.stored })).walk
+    let there : c.args.w.cursor.peeked.kind ≡ Some c.in-Some.kind = sym c.kind.ensures ∙ c.in-Some.is in
+    ⊎_elim (λ e. (core_by _ _ _ _ _ _ _ 12 (token_code _ c.args.w c.requires token.DoubleQuotedString (there ∙ ap Some e)) (record { walk = c.string.ensures.walk; stored = c.string.ensures.stored })).walk)
+    (⊎_elim (λ e. (core_by _ _ _ _ _ _ _ 13 (token_code _ c.args.w c.requires token.SingleQuotedString (there ∙ ap Some e)) (record { walk = c.string.ensures.walk; stored = c.string.ensures.stored })).walk)
+    (⊎_elim (λ e. (core_by _ _ _ _ _ _ _ 14 (token_code _ c.args.w c.requires token.MultilineBasicString (there ∙ ap Some e)) (record { walk = c.string.ensures.walk; stored = c.string.ensures.stored })).walk)
+    (λ e. (core_by _ _ _ _ _ _ _ 15 (token_code _ c.args.w c.requires token.MultilineLiteralString (there ∙ ap Some e)) (record { walk = c.string.ensures.walk; stored = c.string.ensures.stored })).walk))) c.in-DoubleQuotedString.is
 
 pub core-returns-in-DoubleQuotedString-clause-stored : goal.core-returns-in-DoubleQuotedString-clause-stored
 unfolding strings
 core-returns-in-DoubleQuotedString-clause-stored t c =
-    let k : c.args.w.cursor.peeked.kind ≡ Some token.DoubleQuotedString = sym c.kind.ensures ∙ c.in-Some.is ∙ ap Some c.in-DoubleQuotedString.is in
-    (core_by _ _ _ _ _ _ _ 12 (token_code _ c.args.w c.requires token.DoubleQuotedString k) (record { walk = c.string.ensures.walk; stored = c.string.ensures.stored })).stored
-
-pub core-returns-in-SingleQuotedString-clause-walk : goal.core-returns-in-SingleQuotedString-clause-walk
-unfolding strings
-core-returns-in-SingleQuotedString-clause-walk t c =
-    let k : c.args.w.cursor.peeked.kind ≡ Some token.SingleQuotedString = sym c.kind.ensures ∙ c.in-Some.is ∙ ap Some c.in-SingleQuotedString.is in
-    (core_by _ _ _ _ _ _ _ 13 (token_code _ c.args.w c.requires token.SingleQuotedString k) (record { walk = c.string-in-SingleQuotedString.ensures.walk; stored = c.string-in-SingleQuotedString.ensures.stored })).walk
-
-pub core-returns-in-SingleQuotedString-clause-stored : goal.core-returns-in-SingleQuotedString-clause-stored
-unfolding strings
-core-returns-in-SingleQuotedString-clause-stored t c =
-    let k : c.args.w.cursor.peeked.kind ≡ Some token.SingleQuotedString = sym c.kind.ensures ∙ c.in-Some.is ∙ ap Some c.in-SingleQuotedString.is in
-    (core_by _ _ _ _ _ _ _ 13 (token_code _ c.args.w c.requires token.SingleQuotedString k) (record { walk = c.string-in-SingleQuotedString.ensures.walk; stored = c.string-in-SingleQuotedString.ensures.stored })).stored
-
-pub core-returns-in-MultilineBasicString-clause-walk : goal.core-returns-in-MultilineBasicString-clause-walk
-unfolding strings
-core-returns-in-MultilineBasicString-clause-walk t c =
-    let k : c.args.w.cursor.peeked.kind ≡ Some token.MultilineBasicString = sym c.kind.ensures ∙ c.in-Some.is ∙ ap Some c.in-MultilineBasicString.is in
-    (core_by _ _ _ _ _ _ _ 14 (token_code _ c.args.w c.requires token.MultilineBasicString k) (record { walk = c.string-in-MultilineBasicString.ensures.walk; stored = c.string-in-MultilineBasicString.ensures.stored })).walk
-
-pub core-returns-in-MultilineBasicString-clause-stored : goal.core-returns-in-MultilineBasicString-clause-stored
-unfolding strings
-core-returns-in-MultilineBasicString-clause-stored t c =
-    let k : c.args.w.cursor.peeked.kind ≡ Some token.MultilineBasicString = sym c.kind.ensures ∙ c.in-Some.is ∙ ap Some c.in-MultilineBasicString.is in
-    (core_by _ _ _ _ _ _ _ 14 (token_code _ c.args.w c.requires token.MultilineBasicString k) (record { walk = c.string-in-MultilineBasicString.ensures.walk; stored = c.string-in-MultilineBasicString.ensures.stored })).stored
-
-pub core-returns-in-MultilineLiteralString-clause-walk : goal.core-returns-in-MultilineLiteralString-clause-walk
-unfolding strings
-core-returns-in-MultilineLiteralString-clause-walk t c =
-    let k : c.args.w.cursor.peeked.kind ≡ Some token.MultilineLiteralString = sym c.kind.ensures ∙ c.in-Some.is ∙ ap Some c.in-MultilineLiteralString.is in
-    (core_by _ _ _ _ _ _ _ 15 (token_code _ c.args.w c.requires token.MultilineLiteralString k) (record { walk = c.string-in-MultilineLiteralString.ensures.walk; stored = c.string-in-MultilineLiteralString.ensures.stored })).walk
-
-pub core-returns-in-MultilineLiteralString-clause-stored : goal.core-returns-in-MultilineLiteralString-clause-stored
-unfolding strings
-core-returns-in-MultilineLiteralString-clause-stored t c =
-    let k : c.args.w.cursor.peeked.kind ≡ Some token.MultilineLiteralString = sym c.kind.ensures ∙ c.in-Some.is ∙ ap Some c.in-MultilineLiteralString.is in
-    (core_by _ _ _ _ _ _ _ 15 (token_code _ c.args.w c.requires token.MultilineLiteralString k) (record { walk = c.string-in-MultilineLiteralString.ensures.walk; stored = c.string-in-MultilineLiteralString.ensures.stored })).stored
+    let there : c.args.w.cursor.peeked.kind ≡ Some c.in-Some.kind = sym c.kind.ensures ∙ c.in-Some.is in
+    ⊎_elim (λ e. (core_by _ _ _ _ _ _ _ 12 (token_code _ c.args.w c.requires token.DoubleQuotedString (there ∙ ap Some e)) (record { walk = c.string.ensures.walk; stored = c.string.ensures.stored })).stored)
+    (⊎_elim (λ e. (core_by _ _ _ _ _ _ _ 13 (token_code _ c.args.w c.requires token.SingleQuotedString (there ∙ ap Some e)) (record { walk = c.string.ensures.walk; stored = c.string.ensures.stored })).stored)
+    (⊎_elim (λ e. (core_by _ _ _ _ _ _ _ 14 (token_code _ c.args.w c.requires token.MultilineBasicString (there ∙ ap Some e)) (record { walk = c.string.ensures.walk; stored = c.string.ensures.stored })).stored)
+    (λ e. (core_by _ _ _ _ _ _ _ 15 (token_code _ c.args.w c.requires token.MultilineLiteralString (there ∙ ap Some e)) (record { walk = c.string.ensures.walk; stored = c.string.ensures.stored })).stored))) c.in-DoubleQuotedString.is
 
 pub core-returns-in_default-clause-walk : goal.core-returns-in_default-clause-walk
 core-returns-in_default-clause-walk t c =
