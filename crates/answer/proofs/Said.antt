@@ -1,6 +1,5 @@
 -- What is said of the bytes that a word stands for.
-use Rattle.std.proofs.Common.{◌≡◌, refl, sym, ap, ◌∙◌, ℕ, ◌*◌, ◌≤◌, Bool, true, false, List, length, ◌++◌, take, drop, length-append, length-drop, Ok, arith}
-use Rattle.std.specs.Prelude.{leb, Result, Err, IsErr}
+use Rattle.std.proofs.Common.{◌≡◌, ℕ, ◌*◌, ◌≤◌, Bool, true, false, leb, List, ◌++◌, length, take, drop, IsErr, Ok, Err, Result, sym, refl, ap, ◌∙◌, arith, length-append, length-drop}
 use Rattle.std.specs.Result.{IsErrAnd}
 use Rattle.std.proofs.lemmas.Bool.{leb-true, le-leb}
 use lib.Seq.{take-append_seam}

@@ -1,8 +1,5 @@
 -- Some counts, computed by the definition.
-use mathlib.Core.Path.{◌≡◌, refl}
-use mathlib.Core.List.{List, [], ◌∷◌}
-use Prim.Native.Nat.{ℕ}
-use lib.ListN.{replicate}
+use Rattle.std.proofs.Common.{◌≡◌, ℕ, List, [], ◌∷◌, replicate, refl}
 use Rattle.eon_spec.specs.Utf8.{utf8, encode, encode_char, chars_from, chars, char_len, is_utf8, well_formed_len, well_formed_from}
 use Rattle.eon_spec.specs.Regex.{deriv, longest}
 use Rattle.eon_spec.specs.Token.{tokens, tokens_from, longest_rule, rules}

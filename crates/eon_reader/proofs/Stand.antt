@@ -1,13 +1,5 @@
-use Rattle.std.specs.Prelude.{Option, None, Some, is_some}
+use Rattle.std.proofs.Common.{◌≡◌, ℕ, ◌+◌, ◌<◌, ◌≤◌, Bool, true, false, List, [], ◌∷◌, length, is_some, Some, None, Option, sym, refl, ap, ◌∙◌, subst, ap₂, zero-add, arith, drop_of_length-le, eq-eqb, ne_eqb}
 -- A reader's places: it may stand where it starts and behind each token; and counting the tokens. Assumes nothing.
-use mathlib.Core.Path.{◌≡◌, refl, sym, ap, ap₂, subst, ◌∙◌}
-use mathlib.Core.Bool.{Bool, true, false}
-use mathlib.Core.List.{List, [], ◌∷◌}
-use Prim.Native.Nat.{ℕ, ◌+◌, ◌≤◌, ◌<◌}
-use native.Mathlib.Nat.{zero-add}
-use native.Mathlib.Omega.{arith}
-use lib.ListN.{length, drop_of_length-le}
-use borrow.Author.Tests.{eq-eqb, ne_eqb}
 use Rattle.eon_spec.specs.Utf8.{is_utf8, Boundary, chars, chars_from}
 use Rattle.eon_spec.specs.declared.token_kind.TokenKind.{TokenKind}
 use Rattle.eon_spec.specs.declared.token_kind.TokenKind.TheVariants.{Invalid}

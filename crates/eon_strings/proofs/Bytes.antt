@@ -1,9 +1,7 @@
 -- The library's tests of bytes, as the definitions word them.
-use Rattle.std.proofs.Common.{◌≡◌, refl, sym, ◌∙◌, ℕ, Bool, true, false, List, [], ◌∷◌, nat_eq, arith}
+use Rattle.std.proofs.Common.{◌≡◌, ℕ, Bool, true, false, eqb, List, [], ◌∷◌, nat_eq, sym, refl, ◌∙◌, arith, ne_eqb, eqb-true}
 use Rattle.std.specs.List.{list_all, list_any}
 use Rattle.std.proofs.lemmas.Bool.Decides.{nat_tests}
-use borrow.Author.Tests.{ne_eqb, eqb-true}
-use lib.Dec.{eqb}
 use lib.Pointwise.{pointwise}
 use Rattle.eon_spec.specs.Base.{elem, eq_list}
 use Rattle.eon_spec.specs.Utf8.{decode}

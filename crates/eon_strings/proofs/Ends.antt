@@ -1,15 +1,8 @@
 -- A text's last byte, and the quotes at its end; what stands before them.
-use mathlib.Core.Path.{◌≡◌, refl, sym, ap, ◌∙◌}
-use mathlib.Core.Logic.{◌⊎◌, inl, inr}
-use mathlib.Core.Bool.{Bool, true, false}
-use mathlib.Core.List.{List, [], ◌∷◌, ◌++◌, map, append-nil, append_assoc}
-use Prim.Native.Nat.{ℕ, suc, ◌+◌, ◌-◌, ◌≤◌, ◌<◌}
-use native.Mathlib.Omega.{arith}
-use borrow.Author.Tests.{ne_eqb, le-leb, lt-leb}
-use lib.Dec.{leb}
-use lib.ListN.{length, get_or, drop, take, replicate, length-append, length-replicate, get_or-replicate}
-use lib.Seq.{take-length, take-suc, take_at, drop_at, get_or-drop, get_or-append_seam, get_or-append-add}
-use native.Mathlib.Numerals.{add-one}
+use Rattle.std.proofs.Common.{◌≡◌, ℕ, suc, ◌+◌, ◌-◌, ◌<◌, ◌≤◌, Bool, true, false, leb, ◌⊎◌, List, [], ◌∷◌, ◌++◌, map, length, get_or, take, drop, replicate, sym, refl, ap, ◌∙◌, inl, inr, append_assoc, append-nil, add-one, arith, length-append, get_or-drop, take-suc, take_at, get_or-append-add, drop_at, ne_eqb, le-leb}
+use Rattle.std.proofs.lemmas.Bool.{lt-leb}
+use lib.ListN.{length-replicate, get_or-replicate}
+use lib.Seq.{take-length, get_or-append_seam}
 use Rattle.eon_spec.specs.Base.{eq_list, elem}
 use Rattle.eon_spec.specs.Utf8.{Character, chars, chars_from, well_formed_len, joined, code_point, decode}
 use Rattle.eon_spec.specs.Unquote.{without, ends_with}

@@ -1,6 +1,5 @@
 -- Refusals of a quoted text name no kinds of tokens: their numbers are above 12.
-use Rattle.std.proofs.Common.{◌≡◌, refl, ℕ, suc, ◌+◌, ◌-◌, ◌*◌, ◌<◌, Bool, true, false, cond, List, [], ◌∷◌, length, take, drop, Option, Some, None, arith}
-use lib.Dec.{eqb, ltb}
+use Rattle.std.proofs.Common.{◌≡◌, ℕ, suc, ◌+◌, ◌-◌, ◌*◌, ◌<◌, Bool, true, false, cond, eqb, ltb, List, [], ◌∷◌, length, take, drop, Some, None, Option, refl, arith}
 use Rattle.eon_spec.specs.Base.{elem, codes}
 use Rattle.eon_spec.specs.Utf8.{is_scalar}
 use Rattle.eon_spec.specs.Calls.{nowhere}

@@ -1,13 +1,10 @@
 -- Marks, and what stands between them.
-use Rattle.std.proofs.Common.{◌≡◌, refl, sym, ap, ◌∙◌, ℕ, zero, suc, ◌-◌, ◌<◌, Bool, true, false, ◌&&◌, cond, List, [], ◌∷◌, ◌++◌, length, take, drop, replicate, arith}
-use borrow.Author.Tests.{ne_eqb, eqb-true, eq-eqb}
-use lib.Dec.{eqb}
+use Rattle.std.proofs.Common.{◌≡◌, ℕ, zero, suc, ◌-◌, ◌<◌, Bool, true, false, cond, ◌&&◌, eqb, List, [], ◌∷◌, ◌++◌, length, take, drop, replicate, IsErrAnd, Ok, Err, Result, sym, refl, ap, ◌∙◌, arith, eq-eqb, ne_eqb, eqb-true}
 use Rattle.eon_spec.specs.Base.{codes}
 use Rattle.eon_spec.specs.Unquote.{value, fault, unescape, plain, starts_with, ends_with, one_line_only, drop_line_feed, unquote_chars}
 use Rattle.eon_spec.specs.Unquote as unquoting
 use Rattle.eon_laws.proofs.Facts.{clash}
 use Rattle.eon_unescape.specs.Views.{kept}
-use Rattle.std.specs.Prelude.{Result, Ok, Err, IsErrAnd}
 use Rattle.eon_spec.specs.Refused.{number_of}
 use Rattle.eon_spec.specs.declared.refusal.Reason.{Reason}
 use Rattle.eon_strings.specs.declared.marks.Contents.{Contents}

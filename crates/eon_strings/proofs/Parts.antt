@@ -1,5 +1,5 @@
 -- A part of the quoted text has nothing to unescape: its bytes are its characters.
-use Rattle.std.proofs.Common.{◌≡◌, ap, sym, ◌∙◌, ℕ, ◌<◌, true, false, ◌||◌, not, List, length, arith}
+use Rattle.std.proofs.Common.{◌≡◌, ℕ, ◌<◌, true, false, not, ◌||◌, List, length, sym, ap, ◌∙◌, arith}
 use borrow.Author.Tests.{not-true}
 use Rattle.eon_spec.specs.Base.{elem, codes}
 use Rattle.eon_spec.specs.Utf8.{decode}

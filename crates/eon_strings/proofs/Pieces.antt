@@ -1,6 +1,5 @@
 -- What stands behind an opening mark and before a closing one is a piece of the text, and so is what a leading line feed leaves of it.
-use Rattle.std.proofs.Common.{◌≡◌, ap, ◌∙◌, ℕ, ◌+◌, ◌-◌, ◌≤◌, List, length, take, drop, arith}
-use lib.Seq.{drop-drop}
+use Rattle.std.proofs.Common.{◌≡◌, ℕ, ◌+◌, ◌-◌, ◌≤◌, List, length, take, drop, ap, ◌∙◌, arith, drop-drop}
 use Rattle.std.proofs.lemmas.List.{drop-take}
 use Rattle.eon_unescape.specs.Views.{TailOf}
 use Rattle.eon_strings.specs.Views.{FrontOf, PieceOf}

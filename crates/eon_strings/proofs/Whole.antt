@@ -1,17 +1,10 @@
 -- The outcome of the whole call, case by case.
-use mathlib.Core.Path.{◌≡◌, refl, sym, ap, ◌∙◌}
-use mathlib.Core.Bool.{true, false}
-use mathlib.Core.List.{List, []}
-use Prim.Native.Nat.{ℕ, ◌≤◌, ◌<◌}
-use native.Mathlib.Omega.{arith}
-use native.Mathlib.Nat.{zero-add}
-use borrow.Author.Tests.{le-leb, lt-leb}
-use lib.ListN.{length}
+use Rattle.std.proofs.Common.{◌≡◌, ℕ, ◌<◌, ◌≤◌, true, false, List, [], length, IsErrAnd, Ok, Err, Result, sym, refl, ap, ◌∙◌, zero-add, arith, le-leb}
+use Rattle.std.proofs.lemmas.Bool.{lt-leb}
 use lib.Seq.{sets-eq}
 use Rattle.eon_spec.specs.Utf8.{encode, is_utf8, well_formed_len}
 use Rattle.eon_spec.specs.Unquote.{value, fault, unquote, unquote_chars}
 use Rattle.eon_spec.specs.Unquote as unquoting
-use Rattle.std.specs.Prelude.{Result, Ok, Err, IsErrAnd}
 use Rattle.eon_spec.specs.declared.refusal.Refusal as refusals
 use Rattle.eon_spec.specs.Refused.{number_of, refusal_of}
 use Rattle.eon_spec.specs.declared.refusal.Reason.{Reason}

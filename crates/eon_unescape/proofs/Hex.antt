@@ -1,7 +1,5 @@
 -- A hexadecimal digit more.
-use Rattle.std.proofs.Common.{◌≡◌, ℕ, ◌+◌, ◌*◌, ◌^◌, ◌<◌, List, ◌∷◌, Some, add-one, arith}
-use borrow.Author.Tests.{ne_eqb, lt-ltb}
-use lib.Pow.{pow-add, pow_mono}
+use Rattle.std.proofs.Common.{◌≡◌, ℕ, ◌+◌, ◌*◌, ◌^◌, ◌<◌, List, ◌∷◌, Some, add-one, arith, pow_mono, pow-add, lt-ltb, ne_eqb}
 use Rattle.eon_spec.specs.Unquote.{unescape, digits, hex_digit}
 
 pub digit_more : (k n c d : ℕ) (s : List ℕ) → (c ≡ 125 → ⊥) → hex_digit c ≡ Some d → k < 8 → unescape (digits k n) (c ∷ s) ≡ unescape (digits (k + 1) (n * 16 + d)) s

@@ -1,7 +1,5 @@
 -- The characters of a text without carriage returns, one by one.
-use Rattle.std.proofs.Common.{◌≡◌, refl, sym, ap, ◌∙◌, ℕ, zero, suc, ◌-◌, ◌≤◌, ◌<◌, List, [], ◌∷◌, map, length, drop, take, length-drop, arith}
-use borrow.Author.Tests.{eq-eqb, ne_eqb}
-use lib.ListN.{take-append-drop}
+use Rattle.std.proofs.Common.{◌≡◌, ℕ, zero, suc, ◌-◌, ◌<◌, ◌≤◌, List, [], ◌∷◌, map, length, take, drop, sym, refl, ap, ◌∙◌, arith, length-drop, take-append-drop, eq-eqb, ne_eqb}
 use Rattle.eon_spec.specs.Base.{elem}
 use Rattle.eon_laws.proofs.Facts.{nor_right, elem_append}
 use Rattle.eon_spec.specs.Utf8.{char_len, chars_from, chars, decode, code_point, Character, well_formed_len}

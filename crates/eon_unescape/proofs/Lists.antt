@@ -1,12 +1,7 @@
--- A list without a number, tests that are none, and tails.
-use Rattle.std.proofs.Common.{◌≡◌, refl, sym, ap, ◌∙◌, subst, ℕ, ◌+◌, ◌-◌, ◌≤◌, Bool, true, false, ◌||◌, List, [], ◌∷◌, ◌++◌, length, drop, length-drop, drop-drop, arith}
-use lib.Dec.{eqb}
+-- A list without a number, and tails.
+use Rattle.std.proofs.Common.{◌≡◌, ℕ, ◌+◌, ◌-◌, ◌≤◌, Bool, true, false, eqb, List, [], ◌∷◌, ◌++◌, length, drop, sym, refl, ap, ◌∙◌, subst, arith, length-drop, drop-drop}
 use Rattle.eon_spec.specs.Unquote.{without}
 use Rattle.eon_unescape.specs.Views.{TailOf}
-
-pub or_nothing : (b : Bool) → b || false ≡ b
-or_nothing true = refl
-or_nothing false = refl
 
 pub without_append : (x : ℕ) (a b : List ℕ) → without x (a ++ b) ≡ without x a ++ without x b
 without_append x [] b = refl

@@ -1,37 +1,14 @@
 -- A text cut at an ASCII byte.
-use mathlib.Core.Path.{◌≡◌, refl, sym, ap, ◌∙◌}
-use mathlib.Core.Logic.{◌⊎◌, inl, inr}
-use mathlib.Core.List.{List, [], ◌∷◌, ◌++◌}
-use Prim.Native.Nat.{ℕ, zero, suc, ◌+◌, ◌/◌, ◌%◌, ◌≤◌, ◌<◌}
-use native.Mathlib.Omega.{arith}
+use Rattle.std.proofs.Common.{◌≡◌, ℕ, zero, suc, ◌<◌, ◌≤◌, ◌⊎◌, List, [], ◌∷◌, ◌++◌, length, get_or, take, drop, sym, refl, ap, ◌∙◌, inl, inr, arith, length-append, take-append-drop}
+use Rattle.std.proofs.lemmas.List.{take-append-le}
 use native.Mathlib.Decide.{dec_le, dec_lt}
-use borrow.Author.Tests.{lt-ltb, le-ltb}
-use lib.ListN.{length, get_or, drop, take, length-append, take-append-drop, get_or-append}
-use lib.Seq.{take-append_seam, drop-append_seam, take-append-le, drop-append-le, get_or-append_seam}
+use lib.ListN.{get_or-append}
+use lib.Seq.{take-append_seam, drop-append_seam, drop-append-le, get_or-append_seam}
 use Rattle.eon_spec.specs.Utf8.{Character, chars, well_formed_from, well_formed_len, joined, code_point, encode_char}
 use Rattle.eon_laws.proofs.Utf8.{chars_concat}
 use Rattle.eon_laws.proofs.Chars.{IsChar, AllChars, chars_are, all_formed}
-use Rattle.eon_laws.proofs.Encode.{char_encoded}
+use Rattle.eon_laws.proofs.Encode.{char_encoded, encode_one, encode_two, encode_three, encode_four}
 use Rattle.eon_unescape.specs.Views.{Formed}
-
--- ---- the bytes of a character, by its size
-
-module _ (c : ℕ) where
-  pub encode_one : c < 0x80 → encode_char c ≡ c ∷ []
-  unfolding encode_char
-  encode_one h = rw (lt-ltb c 0x80 h, encode_char)
-
-  pub encode_two : 0x80 ≤ c → c < 0x800 → encode_char c ≡ (0xC0 + c / 64) ∷ (0x80 + c % 64) ∷ []
-  unfolding encode_char
-  encode_two h k = rw (le-ltb c 0x80 h, encode_char) (rw (lt-ltb c 0x800 k))
-
-  pub encode_three : 0x800 ≤ c → c < 0x10000 → encode_char c ≡ (0xE0 + c / 4096) ∷ (0x80 + (c / 64) % 64) ∷ (0x80 + c % 64) ∷ []
-  unfolding encode_char
-  encode_three h k = rw (le-ltb c 0x80 (omega arith), encode_char) (rw (le-ltb c 0x800 h) (rw (lt-ltb c 0x10000 k)))
-
-  pub encode_four : 0x10000 ≤ c → encode_char c ≡ (0xF0 + c / 262144) ∷ (0x80 + (c / 4096) % 64) ∷ (0x80 + (c / 64) % 64) ∷ (0x80 + c % 64) ∷ []
-  unfolding encode_char
-  encode_four h = rw (le-ltb c 0x80 (omega arith), encode_char) (rw (le-ltb c 0x800 (omega arith)) (rw (le-ltb c 0x10000 h)))
 
 -- ---- a character is an ASCII byte, or has none
 

@@ -1,16 +1,9 @@
 -- Bytes that stand for themselves: runs up to a backslash or a carriage return.
-use mathlib.Core.Path.{◌≡◌, refl, sym, ap, ◌∙◌}
-use mathlib.Core.Logic.{◌⊎◌, inl, inr}
-use mathlib.Core.Bool.{Bool, true, false}
-use mathlib.Core.List.{List, [], ◌∷◌, ◌++◌, map, append-nil}
-use Prim.Native.Nat.{ℕ, suc, ◌+◌, ◌-◌, ◌/◌, ◌%◌, ◌≤◌, ◌<◌}
-use native.Mathlib.Omega.{arith}
+use Rattle.std.proofs.Common.{◌≡◌, ℕ, suc, ◌+◌, ◌-◌, ◌/◌, ◌%◌, ◌<◌, ◌≤◌, Bool, true, false, eqb, ◌⊎◌, List, [], ◌∷◌, ◌++◌, map, length, get_or, take, drop, Ok, Result, sym, refl, ap, ◌∙◌, inl, inr, append-nil, arith, length-append, take-append-drop, drop_of_length-le, length-take-le, drop-cons, eq-eqb, ne_eqb}
+use Rattle.std.proofs.lemmas.Bool.{eqb-false}
+use mathlib.Core.Bool.{or-false}
 use native.Mathlib.Decide.{dec_lt}
-use borrow.Author.Tests.{eq-eqb, ne_eqb, eqb-false}
-use lib.Dec.{eqb}
-use lib.ListN.{length, get_or, drop, take, length-append, take-append-drop, drop_of_length-le}
-use lib.Seq.{sets, drop-cons, length-take-le}
-use Rattle.std.specs.Prelude.{Result, Ok}
+use lib.Seq.{sets}
 use Rattle.std.specs.List.{take_while}
 use Rattle.std.proofs.lemmas.Bool.Decides.{nat_tests}
 use Rattle.std.proofs.lemmas.List.Sums.{take_while-cons}
@@ -21,7 +14,7 @@ use Rattle.eon_spec.specs.Unquote as unquoting
 use Rattle.eon_spec.specs.declared.refusal.Reason.{Reason}
 use Rattle.eon_laws.proofs.Facts.{nor_left, nor_right, elem_append}
 use Rattle.eon_laws.proofs.Utf8.{chars_append}
-use Rattle.eon_laws.proofs.Encode.{encode_decode}
+use Rattle.eon_laws.proofs.Encode.{encode_decode, encode_one, encode_two, encode_three, encode_four}
 use Rattle.eon_laws.proofs.Shown.{without_none}
 use Rattle.eon_unescape.specs.Modes.{reads_by}
 use Rattle.eon_unescape.specs.Views.{kept, Formed, Reads, is_bare, RunIs}
@@ -30,8 +23,8 @@ use Rattle.eon_unescape.specs.declared.mode.Mode.TheVariants.{Literal, Plain}
 use Rattle.eon_unescape.specs.declared.Next.{Next}
 use Rattle.std.proofs.lemmas.List.{take_rest}
 use Rattle.eon_unescape.proofs.Writes.{sets_append, reads_push, same_as}
-use Rattle.eon_unescape.proofs.Places.{encode_one, encode_two, encode_three, encode_four, ascii_cuts, no_bytes}
-use Rattle.eon_unescape.proofs.Lists.{without_append, or_nothing}
+use Rattle.eon_unescape.proofs.Places.{ascii_cuts, no_bytes}
+use Rattle.eon_unescape.proofs.Lists.{without_append}
 
 elem_char : (x c : ℕ) → x < 128 → elem x (encode_char c) ≡ eqb x c
 elem_char x c h = one (dec_lt c 0x80)
@@ -49,7 +42,7 @@ elem_char x c h = one (dec_lt c 0x80)
     two (no l) k = three (dec_lt c 0x10000) (omega arith)
 
     one : Dec (c < 0x80) → elem x (encode_char c) ≡ eqb x c
-    one (yes l) = rw (encode_one c l) (or_nothing (eqb x c))
+    one (yes l) = rw (encode_one c l) (or-false (eqb x c))
     one (no l) = two (dec_lt c 0x800) (omega arith)
 
 elem_encode : (x : ℕ) (d : List ℕ) → x < 128 → elem x (encode d) ≡ elem x d

@@ -1,10 +1,9 @@
 -- What is written, byte by byte and character by character.
-use Rattle.std.proofs.Common.{◌≡◌, refl, sym, ap, ◌∙◌, ℕ, suc, ◌+◌, ◌-◌, ◌≤◌, min, List, [], ◌∷◌, ◌++◌, append_assoc, length, length-append, take, drop, Result, Ok, Err, add-zero, arith}
+use Rattle.std.proofs.Common.{◌≡◌, ℕ, suc, ◌+◌, ◌-◌, ◌≤◌, min, List, [], ◌∷◌, ◌++◌, length, take, drop, set, Ok, Err, Result, sym, refl, ap, ◌∙◌, append_assoc, add-zero, arith, length-append, take-append-drop, drop_of_length-le, length-take-le, drop-drop}
 use Rattle.std.proofs.lemmas.List.Edits.{sets, sets-eq}
 use Rattle.std.proofs.lemmas.List.{set_past}
 use native.Mathlib.Decide.{dec_le}
-use lib.ListN.{set, take-append-drop, drop_of_length-le}
-use lib.Seq.{length-sets, length-take-le, drop-drop}
+use lib.Seq.{length-sets}
 use Rattle.std.specs.Char.{encode_utf8}
 use Rattle.eon_spec.specs.declared.refusal.Reason.{Reason}
 use Rattle.eon_spec.specs.Utf8.{encode_char, encode}

@@ -1,4 +1,4 @@
-use Rattle.std.proofs.Common.{◌≡◌, ap, ◌∙◌, List, ℕ, is_some, arith, rules}
+use Rattle.std.proofs.Common.{◌≡◌, ℕ, List, is_some, ap, ◌∙◌, arith, rules}
 use Rattle.eon_spec.specs.declared.token_kind.TokenKind.TheVariants.{Invalid}
 use Rattle.eon_spec.specs.Token.{tokens}
 use Rattle.eon_reader.specs.Read.{counted}

@@ -1,4 +1,4 @@
-use Rattle.std.proofs.Common.{ℕ, ◌∙◌, ap, Ok, length-take, length-drop, arith}
+use Rattle.std.proofs.Common.{ℕ, Ok, ap, ◌∙◌, arith, length-drop, length-take}
 use Rattle.eon_unescape.specs.Modes.{onward}
 use Rattle.eon_unescape.proofs.Runs.{turn_end, turn_put, turn_formed}
 use Rattle.eon_unescape.proofs.unescape.Goals as goal

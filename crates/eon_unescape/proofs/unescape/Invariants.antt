@@ -1,4 +1,4 @@
-use Rattle.std.proofs.Common.{ℕ, ◌+◌, ◌*◌, ◌≤◌, length, List, Result}
+use Rattle.std.proofs.Common.{ℕ, ◌+◌, ◌*◌, ◌≤◌, List, length, Result}
 use Rattle.eon_spec.specs.declared.refusal.Reason.{Reason}
 use Rattle.eon_unescape.specs.Modes.{reads_by}
 use Rattle.eon_unescape.specs.Views.{kept, Formed, Reads}

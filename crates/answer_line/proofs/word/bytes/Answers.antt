@@ -1,4 +1,4 @@
-use Rattle.std.proofs.Common.{rules, sym, length}
+use Rattle.std.proofs.Common.{length, sym, rules}
 use Rattle.answer_line.proofs.Bytes.{dash, empty, capital, long, decoded}
 use Rattle.answer_line.proofs.word.bytes.Goals as goal
 use Rattle.answer_line.proofs.word.bytes.Goals.{then-is_empty-via-then-is_empty, then-is_empty-via-else-is_empty+then-any}

@@ -1,5 +1,4 @@
-use mathlib.Core.Logic.{inl}
-use Rattle.std.proofs.Common.{ℕ, ◌∙◌, length-take, arith}
+use Rattle.std.proofs.Common.{ℕ, ◌∙◌, inl, arith, length-take}
 use Rattle.eon_strings.proofs.Ends.{last_return, last_quote, last_other, cut_front, front_bytes, none_kept}
 use Rattle.eon_strings.proofs.marks.before_one.Goals as goal
 

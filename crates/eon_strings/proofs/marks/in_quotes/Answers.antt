@@ -1,4 +1,4 @@
-use Rattle.std.proofs.Common.{◌∙◌, ap, sym, subst}
+use Rattle.std.proofs.Common.{sym, ap, ◌∙◌, subst}
 use Rattle.eon_spec.specs.Refused.{number_of}
 use Rattle.eon_spec.specs.Unquote.{value, unescape, plain, one_line_only, drop_line_feed}
 use Rattle.eon_unescape.specs.Views.{kept}

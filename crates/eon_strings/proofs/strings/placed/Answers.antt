@@ -1,4 +1,4 @@
-use Rattle.std.proofs.Common.{◌≡◌, List, ℕ, ◌∙◌, ap, sym, subst}
+use Rattle.std.proofs.Common.{◌≡◌, ℕ, List, sym, ap, ◌∙◌, subst}
 use Rattle.eon_spec.specs.Unquote.{unquote_chars}
 use Rattle.eon_spec.specs.Calls.{after}
 use Rattle.eon_unescape.specs.Views.{kept}

@@ -1,4 +1,4 @@
-use Rattle.std.proofs.Common.{rules, vec_len, ap, ap₂, sym, ◌∙◌}
+use Rattle.std.proofs.Common.{vec_len, sym, ap, ◌∙◌, ap₂, rules}
 use Rattle.answer.specs.Verbs.{trees_said}
 use Rattle.answer.proofs.Said.{two_words, stood, first_refuses, second_refuses, compare_answers, compare_refuses_not, refusal_said}
 use Rattle.answer.proofs.desk.Desk.compare.Goals as goal

@@ -1,4 +1,4 @@
-use Rattle.std.proofs.Common.{rules, arith, ap, sym, ◌∙◌, ◌≡◌, ◌*◌, take}
+use Rattle.std.proofs.Common.{◌≡◌, ◌*◌, take, sym, ap, ◌∙◌, arith, rules}
 use Rattle.eon_spec.specs.Calls.{read_text}
 use Rattle.answer.specs.Verbs.{table, of_outcome, tree_said}
 use Rattle.answer.proofs.Said.{lent_word, read_answers, read_refuses, refusal_said}

@@ -1,4 +1,4 @@
-use Rattle.std.proofs.Common.{rules, vec_len, ap, ap₂, sym, ◌∙◌}
+use Rattle.std.proofs.Common.{vec_len, sym, ap, ◌∙◌, ap₂, rules}
 use Rattle.eon_spec.specs.Calls.{read_text}
 use Rattle.answer.specs.Verbs.{bytes, of_outcome, lent_said, laid_said}
 use Rattle.answer.proofs.Said.{lent_word, lent_fits, reformat_answers, reformat_refuses, refusal_said}

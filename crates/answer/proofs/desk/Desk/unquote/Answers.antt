@@ -1,4 +1,4 @@
-use Rattle.std.proofs.Common.{rules, ap, sym, ◌∙◌}
+use Rattle.std.proofs.Common.{sym, ap, ◌∙◌, rules}
 use Rattle.answer.specs.Verbs.{bytes, of_outcome, value_of, value_said}
 use Rattle.answer.proofs.Said.{lent_word, unquote_answers, unquote_refuses, refusal_said}
 use Rattle.answer.proofs.desk.Desk.unquote.Goals as goal

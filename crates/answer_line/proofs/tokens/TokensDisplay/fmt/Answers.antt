@@ -1,5 +1,4 @@
-use Rattle.std.proofs.Common.{refl, ap, sym, ◌∙◌, List, ℕ, [], ◌++◌, false, arith, rules, append_assoc, append-nil}
-use Rattle.std.specs.Prelude.{is_some}
+use Rattle.std.proofs.Common.{ℕ, false, List, [], ◌++◌, is_some, sym, refl, ap, ◌∙◌, append_assoc, append-nil, arith, rules}
 use Rattle.std.proofs.Output.{has_written_append, has_written_of_eq}
 use Rattle.eon_token.proofs.Text.{boundary_start}
 use Rattle.eon_token.proofs.Laws.{end_boundary, bounds, tokens_start, tokens_none, tokens_some}

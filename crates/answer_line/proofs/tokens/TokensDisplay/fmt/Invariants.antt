@@ -1,5 +1,5 @@
 -- Each token is asked for at a boundary of the text, and ends at one further on; what is written and the tokens from there on are all.
-use Rattle.std.proofs.Common.{◌≡◌, ℕ, List, ◌-◌, ◌++◌, length, false}
+use Rattle.std.proofs.Common.{◌≡◌, ℕ, ◌-◌, false, List, ◌++◌, length}
 use Rattle.std.specs.Fmt.{HasWritten, IsPlainFormatter}
 use Rattle.eon_spec.specs.Utf8.{Boundary}
 use Rattle.eon_spec.specs.Token.{tokens}
