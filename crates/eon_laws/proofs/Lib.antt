@@ -26,3 +26,4 @@ pub mod Compare
 pub mod Kept
 pub mod Contains
 pub mod Str
+pub mod Stores

@@ -12,7 +12,8 @@ use Rattle.eon_parse.specs.Answer.{place, emit, stored, entered, moved, begun, r
 use Rattle.eon_parse.specs.declared.walk.Walk.{Walk}
 use Rattle.eon_parse.specs.declared.walk.Begun.{Begun}
 use Rattle.eon_parse.proofs.Laws.{words_append, emit_none, emit_emit, finish}
-use Rattle.eon_parse.proofs.Store.{sets_append, patched}
+use Rattle.eon_laws.proofs.Stores.{sets_append}
+use Rattle.eon_parse.proofs.Store.{patched}
 
 pub record Page : Type 0 where
   pub cur : Walk
@@ -45,7 +46,7 @@ module _ (s old : List ℕ) where
         tables : sets (sets σ.tab (5 * σ.cur.count) (words f)) (5 * (σ.cur.count + length f)) (words g) ≡ sets σ.tab (5 * σ.cur.count) (words (f ++ g))
         tables =
             ap (λ (n : ℕ). sets (sets σ.tab (5 * σ.cur.count) (words f)) n (words g)) at_words
-            ∙ sym (sets_append σ.tab (5 * σ.cur.count) (words f) (words g))
+            ∙ sets_append (words f) (words g) σ.tab (5 * σ.cur.count)
             ∙ ap (sets σ.tab (5 * σ.cur.count)) (sym (words_append f g))
 
     -- a container's record is stored behind its inside, and before it

@@ -6,7 +6,7 @@ use Rattle.std.proofs.Math.Decide.{dec_le}
 use Rattle.std.proofs.Math.Seq.{length-sets}
 use Rattle.std.specs.Option.{ForSome}
 use Rattle.eon_put.specs.Put.{put_from}
-use Rattle.eon_put.specs.Stores.{sets_append, sets_past}
+use Rattle.eon_laws.proofs.Stores.{sets_append, sets_past}
 
 module _ (b l : List ℕ) (at n : ℕ) (e : n ≡ min (length b) (length l - at)) where
   few : length (take n b) ≡ n

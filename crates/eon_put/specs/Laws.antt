@@ -6,7 +6,7 @@ use Rattle.std.proofs.lemmas.List.Edits.{sets}
 use lib.Seq.{length-sets}
 use Rattle.eon_put.specs.declared.Measure.{Measure}
 use Rattle.eon_put.specs.declared.Writer.{Writer}
-use Rattle.eon_put.specs.Stores.{sets_append, sets_past}
+use Rattle.eon_laws.proofs.Stores.{sets_append, sets_past}
 use Rattle.eon_put.specs.Put.{left_after, Measures, place_after, put_from, Writes}
 
 pub measures_nothing : (m : Measure) → Measures m [] m

@@ -22,7 +22,8 @@ use Rattle.eon_unescape.specs.declared.mode.Mode.{Mode}
 use Rattle.eon_unescape.specs.declared.mode.Mode.TheVariants.{Literal, Plain}
 use Rattle.eon_unescape.specs.declared.Next.{Next}
 use Rattle.std.proofs.lemmas.List.{take_rest}
-use Rattle.eon_unescape.proofs.Writes.{sets_append, reads_push, same_as}
+use Rattle.eon_laws.proofs.Stores.{sets_append}
+use Rattle.eon_unescape.proofs.Writes.{reads_push, same_as}
 use Rattle.eon_unescape.proofs.Places.{ascii_cuts, no_bytes}
 use Rattle.eon_unescape.proofs.Lists.{without_append}
 

@@ -1,7 +1,6 @@
 -- What is written, byte by byte and character by character.
-use Rattle.std.proofs.Common.{◌≡◌, ℕ, suc, ◌+◌, ◌-◌, ◌≤◌, min, List, [], ◌∷◌, ◌++◌, length, take, drop, set, Ok, Err, Result, sym, refl, ap, ◌∙◌, append_assoc, add-zero, arith, length-append, take-append-drop, drop_of_length-le, length-take-le, drop-drop}
+use Rattle.std.proofs.Common.{◌≡◌, ℕ, ◌+◌, ◌-◌, ◌≤◌, min, List, [], ◌++◌, length, take, drop, Ok, Err, Result, sym, refl, ap, ◌∙◌, append_assoc, arith, length-append, take-append-drop, drop_of_length-le, length-take-le, drop-drop}
 use Rattle.std.proofs.lemmas.List.Edits.{sets, sets-eq}
-use Rattle.std.proofs.lemmas.List.{set_past}
 use native.Mathlib.Decide.{dec_le}
 use lib.Seq.{length-sets}
 use Rattle.std.specs.Char.{encode_utf8}
@@ -9,23 +8,13 @@ use Rattle.eon_spec.specs.declared.refusal.Reason.{Reason}
 use Rattle.eon_spec.specs.Utf8.{encode_char, encode}
 use Rattle.eon_spec.specs.Unquote.{value, fault, push}
 use Rattle.eon_spec.specs.Unquote as unquoting
+use Rattle.eon_laws.proofs.Stores.{sets_append, sets_past}
 use Rattle.eon_unescape.specs.Views.{Reads}
 
 -- the library's bytes of a character are those of the paper
 pub same_bytes : (c : ℕ) → encode_utf8 c ≡ encode_char c
 unfolding encode_utf8 encode_char
 same_bytes c = refl
-
-pub sets_append : (a b l : List ℕ) (i : ℕ) → sets (sets l i a) (i + length a) b ≡ sets l i (a ++ b)
-sets_append [] b l i = rw (add-zero i)
-sets_append (x ∷ a) b l i =
-    let z : i + suc (length a) ≡ suc i + length a = omega arith in
-    rw z (sets_append a b (set l i x) (suc i))
-
--- nothing is written past the end
-pub sets_past : (a l : List ℕ) (i : ℕ) → length l ≤ i → sets l i a ≡ l
-sets_past [] l i h = refl
-sets_past (x ∷ a) l i h = rw (set_past l i x h) (sets_past a l (suc i) (omega arith))
 
 -- so as many bytes are as there is room for
 pub sets_room : (a l : List ℕ) (i n : ℕ) → i ≤ length l → n ≡ min (length a) (length l - i) → sets l i a ≡ take i l ++ (take n a ++ drop n (drop i l))

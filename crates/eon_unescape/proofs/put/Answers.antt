@@ -1,5 +1,6 @@
 use Rattle.std.proofs.Common.{◌≡◌, ◌+◌, ◌-◌, sym, arith}
-use Rattle.eon_unescape.proofs.Writes.{sets_past, sets_room}
+use Rattle.eon_laws.proofs.Stores.{sets_past}
+use Rattle.eon_unescape.proofs.Writes.{sets_room}
 use Rattle.eon_unescape.proofs.put.Goals as goal
 
 pub returns-then-out-at-clause-written : goal.returns-then-out-at-clause-written
