@@ -13,6 +13,7 @@ use eon_spec::{NONE, PATHS_MAX, RecordKind};
 use eon_table::Sheet;
 
 // Of the paths of a path text, by their numbers, those whose first `matched` keys were met and which have one left.
+// One is always made with all its fields named: `..` of another is refused where there are ghost fields.
 #[derive(Clone, Copy)]
 pub struct Live<'a> {
     pub text: &'a [u8],
