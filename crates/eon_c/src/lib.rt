@@ -9,8 +9,8 @@ ghost use Rattle.eon_spec.specs.Pick.{record_at_call, records_in_call};
 ghost use Rattle.eon_spec.specs.Lookup.{lookup_call, steps_of};
 ghost use Rattle.eon_c.specs.Words.{refused_words, done_words, count_words, truth_words, slice_number, which_of, part_words, shown_words, options_of, LentAnswers, found_or};
 
-use eon_spec::{FormatOptions, Found, Hit, PATHS_MAX, Part, Refusal, Setting, Which};
 use eon_spec::token_kind::number_or_zero;
+use eon_spec::{FormatOptions, Found, Hit, PATHS_MAX, Part, Refusal, Setting, Which};
 
 fn refused_words(r: Refusal) -> [u64; 8]
     ensures { result ≡ refused_words (refusal_of r) }

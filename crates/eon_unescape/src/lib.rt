@@ -15,8 +15,8 @@ mod chars;
 mod digits;
 mod mode;
 
-use eon_spec::Reason;
 pub use digits::Digits;
+use eon_spec::Reason;
 pub use mode::{Mode, Step};
 
 // A character, and the text behind it.

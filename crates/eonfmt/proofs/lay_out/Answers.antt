@@ -8,5 +8,5 @@ pub returns : goal.returns
 returns g c =
     let run = c.run-run in
     let told : said (outcome_of c.and-answer.result) run.new.out ≡ formatted c.args.text.now =
-        rw c.and-answer.ensures (said_by_run c.args.text.now run.result run.new.table run.new.out run.ensures) in
+    rw c.and-answer.ensures (said_by_run c.args.text.now run.result run.new.table run.new.out run.ensures) in
     rw told at c.write_answer.ensures
