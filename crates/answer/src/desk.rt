@@ -156,7 +156,7 @@ impl Desk {
     }
 
     // A text is read into a table of so many words, and laid out into so many bytes. What it has in common with `layout` are calls already:
-    // joined, it would only take them as arguments. So it is with `read` and `unquote`.
+    // joined, it would only take them as arguments. So it is with `format`, and with `read` and `unquote`.
     fn reformat(&mut self, text: &[u8], words: usize, bytes: usize) -> Result<Reply<'_>, Fault>
         ensures { said result ≡
             reformat_said (vec_len self.old.text) (vec_len self.old.table) (vec_len self.old.room) text.now words bytes }

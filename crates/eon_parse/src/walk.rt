@@ -1,4 +1,5 @@
-// The walk over a text's tokens: where it stands, how many records it has passed, and whether they are an old table's.
+// The walk over a text's tokens: where it stands, how many records it has passed, and whether they are an old table's. `Ready` is asked as
+// in readers.rt, and places of a table are bounded as in words.rt.
 ghost use Rattle.std.specs.Prelude.{◌≡◌, ◌+◌, ◌≤◌, ◌<◌, ◌*◌, eqb, IsSome};
 ghost use Rattle.eon_spec.specs.Token.{kind_number};
 ghost use Rattle.eon_token.specs.Placed.{code_of};
@@ -21,7 +22,8 @@ pub struct Walk {
     pub same: bool,
 }
 
-// A record whose end is still to come: its number and its start, and where a variant's name ends, which is asked of a variant alone.
+// A record whose end is still to come: its number and its start, and where a variant's name ends, which is asked of a variant
+// alone: an Option would say once more what the kind says.
 #[derive(Clone, Copy)]
 pub struct Begun {
     pub kind: RecordKind,

@@ -38,6 +38,7 @@ impl Record {
         holds(table, i + 4, self.size)
     }
 
+    // One store after the other, each where the table reaches: a slice of five would have to be there whole.
     pub fn store_in(self, table: &mut [u32], i: usize)
         requires { i < 1000000 }
         ensures { table.new ≡ sets table.old i (words_of self) }

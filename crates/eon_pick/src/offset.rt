@@ -60,7 +60,7 @@ impl<'a> Records<'a> {
 fn holds(sheet: Sheet, i: usize, b: usize) -> bool
     ensures { result ≡ holds_byte b (record_of sheet.entry.table.now i) }
 {
-    sheet.start(i) <= b && b < sheet.end(i)
+    (sheet.start(i)..sheet.end(i)).contains(&b)
 }
 
 // The byte of record i that is nearest to o: o itself, the record's first byte or its last.

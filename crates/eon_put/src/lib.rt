@@ -11,6 +11,7 @@ pub trait Sink {
     // `puts s b t`: the bytes b were put, which made t of s.
     ghost puts: { Self → List ℕ → Self → Type 0 };
 
+    // Apart from `put_all`, since one byte costs less than a copy.
     fn put(&mut self, byte: u8)
         ensures { puts self.old (byte ∷ []) self.new };
 

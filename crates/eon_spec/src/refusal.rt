@@ -115,7 +115,7 @@ pub struct Refusal {
 }
 
 impl Refusal {
-    // A refusal at a place of no length.
+    // A refusal at a place of no length: 0, where the papers say "0, 0".
     pub fn new(reason: Reason, at: usize) -> Self
         ensures { result ≡ record { reason = reason; start = at; end = at } }
     {

@@ -12,6 +12,7 @@ pub fn is_valid_identifier(text: &[u8]) -> bool
     is_name(text) && !is_keyword(text)
 }
 
+// Three tests: of one pattern of three byte strings the check finds no proof.
 #[tactic(auto, using(crate::proofs::Bytes::same_list))]
 fn is_keyword(text: &[u8]) -> bool
     ensures { result ≡ eq_list text.now (codes "true") || eq_list text.now (codes "false") || eq_list text.now (codes "null") }
@@ -35,6 +36,7 @@ fn all_letters_or_digits(text: &[u8]) -> bool
     text.iter().all(|c| is_letter_or_digit(*c))
 }
 
+// As in eon_token, where it is said of classes of bytes.
 fn is_letter(c: u8) -> bool
     ensures { result ≡ is_letter c }
 {

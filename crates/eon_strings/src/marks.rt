@@ -45,7 +45,8 @@ const DOUBLE: Mark = Mark {
     count: 1,
 };
 
-// Openings are tried in the order `'''`, `'`, `"""`, `"`.
+// Openings are tried in the order `'''`, `'`, `"""`, `"`. Four times the same two steps, and no loop over the marks, since behind them each
+// goes on in its own way.
 pub fn in_quotes(text: &[u8]) -> Result<Contents<'_>, Reason>
     requires { Formed text.now }
     ensures given { unquote_chars (kept text.now) ≡ given result }

@@ -41,7 +41,7 @@ fn placed(text: Text, scratch: &mut [u8]) -> Result<Part, Reason>
     unescaped(contents, scratch)
 }
 
-// A value that is no part of the quoted slice is measured, and then written.
+// A value that is no part of the quoted slice is measured, and then written, by one function: in an empty memory it measures.
 #[tactic(auto, using(crate::proofs::Whole::measured_fault, crate::proofs::Whole::measured_room, crate::proofs::Whole::is_written))]
 fn unescaped(contents: Contents<'_>, scratch: &mut [u8]) -> Result<Part, Reason>
     requires short { length contents.text.now ≤ 65535 }
@@ -103,6 +103,7 @@ fn named<'a>(which: Which, quoted: &'a [u8], scratch: &'a [u8]) -> &'a [u8]
     }
 }
 
+// No sum of the two, which might not fit into a usize.
 fn lies_within(total: usize, part: Part) -> bool
     ensures { result ≡ leb (part.start + part.len) total }
 {

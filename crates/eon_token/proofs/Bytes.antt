@@ -2,7 +2,7 @@
 -- bytes that pass a test ends.
 use Rattle.std.proofs.Common.{◌≡◌, ℕ, zero, suc, ◌+◌, ◌-◌, ◌<◌, ◌≤◌, Bool, true, false, cond, not, ◌&&◌, ◌||◌, T, ltb, leb, ◌⊎◌, List, length, get_or, drop, nat_eq, sym, refl, ap, ◌∙◌, inl, inr, arith, lit<, lit≤}
 use Rattle.std.proofs.lemmas.Bool.{cases_lt}
-use Rattle.std.specs.Char.{is_ascii_lowercase, is_ascii_uppercase, is_ascii_digit}
+use Rattle.std.specs.Char.{is_ascii_lowercase, is_ascii_uppercase, is_ascii_digit, is_ascii_whitespace}
 use Rattle.eon_laws.proofs.Facts.{within_bounds}
 use Rattle.eon_token.specs.declared.token_kind.Quote.{Quote}
 use Rattle.eon_token.specs.declared.token_kind.Quote.TheVariants.{Double, Single}
@@ -18,9 +18,9 @@ same : (f g : ℕ → Bool) → T (below 256 (alike f g)) → (b : ℕ) → b < 
 unfolding alike
 same f g t b h = eq?-eq (f b) (g b) (below_at 256 (alike f g) t b h)
 
-pub blank_is : (b : ℕ) → b < 256 → in_classes 0 1 b ≡ (nat_eq b 32 || (nat_eq b 9 || (nat_eq b 10 || (nat_eq b 12 || nat_eq b 13))))
+pub blank_is : (b : ℕ) → b < 256 → in_classes 0 1 b ≡ is_ascii_whitespace b
 unfolding alike eq? class classes
-blank_is = same (in_classes 0 1) (λ b. nat_eq b 32 || (nat_eq b 9 || (nat_eq b 10 || (nat_eq b 12 || nat_eq b 13)))) tt
+blank_is = same (in_classes 0 1) is_ascii_whitespace tt
 
 pub letter_is : (b : ℕ) → b < 256 → in_classes 2 2 b ≡ (is_ascii_lowercase b || (is_ascii_uppercase b || nat_eq b 95))
 unfolding alike eq? class classes

@@ -274,7 +274,7 @@ fn end_while<F: Fn(u8) -> bool>(text: &[u8], from: usize, inside: F) -> usize
 fn is_blank(b: u8) -> bool
     ensures { result ≡ in_classes 0 1 b }
 {
-    matches!(b, b' ' | b'\t' | b'\n' | b'\x0C' | b'\r')
+    b.is_ascii_whitespace()
 }
 
 // A byte that an identifier begins with.

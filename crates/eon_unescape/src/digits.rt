@@ -11,7 +11,7 @@ pub struct Digits {
 }
 
 impl Digits {
-    // None so far.
+    // None so far: `new`, as the library's collections have it.
     pub fn new() -> Self
         ensures none { result.count ≡ 0 }
         ensures zero { result.value ≡ 0 }

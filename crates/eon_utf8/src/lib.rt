@@ -11,7 +11,7 @@ pub mod text;
 use std::str;
 pub use text::Text;
 
-// A character: its code point and its length.
+// A character: its code point, and its length, which its row says. From the code point the length would have to be told anew.
 #[derive(Clone, Copy)]
 pub struct Char {
     pub code: char,
