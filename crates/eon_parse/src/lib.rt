@@ -54,6 +54,7 @@ fn read_checked(text: Text, table: &mut [u32]) -> Result<usize, Refusal>
     if table.len() < RECORD_WORDS * count {
         return Err(Refusal::new(Reason::NoSpace, 0));
     }
+    // Read again by the reader of its form, now to store: which one it is, is what the first walk found out.
     let _ = match top.form {
         Form::Map => as_map(text, &[], table, w),
         Form::Single => one(text, &[], table, w, DEPTH),
