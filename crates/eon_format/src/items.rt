@@ -15,7 +15,7 @@ use eon_table::Sheet;
 // A sheet, and how it is laid out.
 #[derive(Clone, Copy)]
 pub struct Layout<'a> {
-    pub sheet: Sheet<'a>,
+    pub sheet: Sheet<'a, 'a>,
     pub options: &'a FormatOptions,
 }
 

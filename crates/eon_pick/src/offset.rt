@@ -24,7 +24,7 @@ pub fn record_at(text: &[u8], table: &[u32], offset: usize) -> Result<usize, Ref
 // The first `count` records of a sheet.
 #[derive(Clone, Copy)]
 struct Records<'a> {
-    sheet: Sheet<'a>,
+    sheet: Sheet<'a, 'a>,
     count: usize,
 }
 

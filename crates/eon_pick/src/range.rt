@@ -39,7 +39,7 @@ pub fn records_in(
 // The first records of a sheet, and the range that is asked for. No `Records` in it: each line that reads a record would be longer.
 #[derive(Clone, Copy)]
 struct Query<'a> {
-    sheet: Sheet<'a>,
+    sheet: Sheet<'a, 'a>,
     records: usize,
     from: usize,
     to: usize,

@@ -1,16 +1,17 @@
 -- The walk as a feature meets it: what stands at a record, with all that its words and the answers of the steps say of it.
 use Rattle.std.proofs.Common.{◌≡◌, ℕ, ◌+◌, ◌<◌, ◌≤◌, true, false, List, length, sym, refl, ap, ◌∙◌, subst, arith}
 use Rattle.eon_spec.specs.Tree.{Slice, TokenTree, TokenValue, TokenTrees, KeyValues, identifier, number, quoted_string, list_of, map_of, variant_of, no_trees, ◌∷ᵗ◌, no_pairs, pair}
-use Rattle.eon_spec.specs.RecordKind.{IDENTIFIER, NUMBER, STRING, LIST, MAP, VARIANT}
+use Rattle.eon_spec.specs.RecordKind.{IDENTIFIER, NUMBER, STRING, LIST, MAP, VARIANT, CLOSING_COMMENT}
+use Rattle.eon_spec.specs.Layout.{prefix_of}
 use Rattle.eon_spec.specs.Records.{tree_records}
 use Rattle.eon_spec.specs.Calls.{record_text}
 use Rattle.eon_laws.proofs.Facts.{clash}
-use Rattle.eon_laws.proofs.Records.{tree_size, value_size, tree_size_lem}
+use Rattle.eon_laws.proofs.Records.{tree_size, value_size, trees_size, pairs_size, tree_size_lem}
 use Rattle.eon_table.specs.Words.{word, record_of, more_at, AfterPrefix}
-use Rattle.eon_table.specs.TreeAt.{kind_of, value_of, LeafAt, TreeAt, ValueAt, InsideAt, PairedAt, PairAt, NextAt, SomeTree}
+use Rattle.eon_table.specs.TreeAt.{kind_of, value_of, LeafAt, CommentsAt, TreeAt, ValueAt, TreesAt, PairsAt, InsideAt, PairedAt, PairAt, NextAt, SomeTree}
 use Rattle.eon_table.specs.Finished.{Finished}
 use Rattle.eon_table.proofs.Parts.{text_some}
-use Rattle.eon_table.proofs.Walk.{tree_pos, value_kind, value_size_lem, tree_value, list_inside_lem, variant_inside, map_inside_lem, inside_next, inside_tree, inside_in_lem, more_none, more_tree, no_more, one_more, paired_first, paired_next}
+use Rattle.eon_table.proofs.Walk.{tree_pos, value_kind, value_size_lem, value_in, tree_head, tree_value, list_inside_lem, variant_inside, map_inside_lem, inside_next, inside_tree, inside_in_lem, more_none, more_tree, no_more, one_more, paired_first, paired_next}
 
 -- ---- a value
 
@@ -102,6 +103,7 @@ module _ (s tb : List ℕ) where
   -- a value at record i
   pub record ValueHere (i : ℕ) (v : TokenValue) : Type 0 where
     pub at : ValueAt s tb i v
+    pub in_table : i < length tb
     pub kind : word tb i 0 ≡ kind_of v
     pub size : word tb i 4 ≡ value_size v
     -- by its kind; `end` is what `behind` answers
@@ -116,6 +118,7 @@ module _ (s tb : List ℕ) where
   value_here i v h =
       record {
         at = h;
+        in_table = value_in s tb i v h;
         kind = value_kind s tb i v h;
         size = value_size_lem s tb i v h;
         as_identifier = identifier_is s tb i v h;
@@ -133,7 +136,8 @@ module _ (s tb : List ℕ) where
     pub at : TreeAt s tb end i t
     -- what `next_tree` asks
     pub asked : (s : List ℕ) × SomeTree s tb end i
-    -- the value where `after_prefix` leads
+    -- where `after_prefix` leads: the number in the definitions' words, and the value there
+    pub behind_prefix : (r : ℕ) → AfterPrefix tb i r → r ≡ i + length (prefix_of t)
     pub value : (r : ℕ) → AfterPrefix tb i r → ValueHere r (value_of t)
     -- where `next_tree` leads: the number in the definitions' words, further on
     pub next : (r : ℕ) → NextAt tb end i r → r ≡ i + length (tree_records t)
@@ -144,6 +148,7 @@ module _ (s tb : List ℕ) where
       record {
         at = h;
         asked = (s, (t, h));
+        behind_prefix = λ r a. tree_head s tb end i r t h a;
         value = λ r a. value_here r (value_of t) (tree_value s tb end i r t h a);
         next = λ r n. n s t h ∙ ap (λ (k : ℕ). i + k) (sym (tree_size_lem t));
         past = λ r n. let e : r ≡ i + tree_size t = n s t h in let p : 1 ≤ tree_size t = tree_pos t in omega arith;
@@ -211,3 +216,24 @@ no_entry {s} {tb} {end} {j} {kvs} {cl} = go kvs
     go : (kvs : KeyValues) → PairedAt s tb end j kvs cl → more_at tb end j ≡ false → kvs ≡ no_pairs
     go no_pairs h m = refl
     go (pair k v ts) h m = clash (one_more s tb end j k v ts cl h) m
+
+-- ---- a map's keys and values in turn, for a walk that takes all containers alike
+
+abbrev pub in_turn : KeyValues → TokenTrees
+in_turn no_pairs = no_trees
+in_turn (pair k v kvs) = k ∷ᵗ (v ∷ᵗ in_turn kvs)
+
+turn_size : (kvs : KeyValues) → trees_size (in_turn kvs) ≡ pairs_size kvs
+unfolding trees_size
+turn_size no_pairs = refl
+turn_size (pair k v kvs) = ap (λ (n : ℕ). tree_size k + (tree_size v + n)) (turn_size kvs)
+
+turn_at : (s tb : List ℕ) (end j : ℕ) (kvs : KeyValues) → PairsAt s tb end j kvs → TreesAt s tb end j (in_turn kvs)
+unfolding TreesAt
+turn_at s tb end j no_pairs h = tt
+turn_at s tb end j (pair k v kvs) h = (h.0, (h.1, turn_at s tb end (j + tree_size k + tree_size v) kvs h.2))
+
+pub as_items : {s tb : List ℕ} {end j : ℕ} {kvs : KeyValues} {cl : List Slice} → PairedAt s tb end j kvs cl → InsideAt s tb end j (in_turn kvs) cl
+as_items {s} {tb} {end} {j} {kvs} {cl} h =
+    let e : trees_size (in_turn kvs) ≡ pairs_size kvs = turn_size kvs in
+    record { values = turn_at s tb end j kvs h.pairs; closing = subst (λ (n : ℕ). CommentsAt s tb CLOSING_COMMENT (j + n) cl) (sym e) h.closing; all = omega (arith, h.all) }

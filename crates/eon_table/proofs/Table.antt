@@ -1,5 +1,5 @@
 -- The records of a table in their order.
-use Rattle.std.proofs.Common.{⊎_elim, ◌≡◌, ℕ, zero, suc, ◌+◌, ◌-◌, ◌*◌, ◌<◌, List, [], ◌∷◌, ◌++◌, length, get_or, take, drop, sym, refl, ap, ◌∙◌, add-zero, add-suc, suc-add, zero-add, add-one, arith, take-append-drop, get_or-drop, drop-drop}
+use Rattle.std.proofs.Common.{⊎_elim, ◌≡◌, ℕ, zero, suc, ◌+◌, ◌-◌, ◌*◌, ◌≤◌, ◌<◌, List, [], ◌∷◌, ◌++◌, length, get_or, take, drop, sym, refl, ap, ◌∙◌, add-zero, add-suc, suc-add, zero-add, add-one, arith, take-append-drop, get_or-drop, drop-drop}
 use Rattle.std.proofs.lemmas.List.{get_or_past}
 use Rattle.std.proofs.lemmas.Bool.{cases_lt}
 use Rattle.eon_spec.specs.Records.{Record, words}
@@ -35,6 +35,11 @@ module _ (tb : List ℕ) where
   records_first i n h =
       let e : n - i ≡ suc (n - (i + 1)) = omega arith in
       ap (λ (m : ℕ). records_of tb i m) e ∙ ap (λ (m : ℕ). record_of tb i ∷ records_of tb m (n - (i + 1))) (sym (add-one i))
+
+  -- none are left
+  pub records_none : (i n : ℕ) → n ≤ i → records_of tb i (n - i) ≡ []
+  unfolding records_of
+  records_none i n h = let e : n - i ≡ 0 = omega arith in ap (λ (m : ℕ). records_of tb i m) e
 
   pub records_all : (n : ℕ) → records_of tb 0 (n - 0) ≡ records_of tb 0 n
   records_all n = let e : n - 0 ≡ n = omega arith in ap (λ (m : ℕ). records_of tb 0 m) e

@@ -6,7 +6,7 @@ use Rattle.eon_spec.specs.Tree.{Span, Slice, TokenTree, TokenValue, TokenTrees, 
 use Rattle.eon_spec.specs.Layout.{prefix_of, suffix_of}
 use Rattle.eon_laws.proofs.Facts.{clash, and_left}
 use Rattle.eon_laws.proofs.Records.{suffix_size, tree_size, value_size, trees_size, pairs_size}
-use Rattle.eon_table.specs.Words.{word, has_suffix, more_at, AfterPrefix}
+use Rattle.eon_table.specs.Words.{word, has_suffix, more_at, AfterPrefix, Within, Texts}
 use Rattle.eon_table.specs.TreeAt.{kind_of, value_of, CommentsAt, SuffixAt, HeadAt, TreeAt, ValueAt, TreesAt, PairsAt, InsideAt, PairedAt, PairAt}
 use Rattle.eon_table.proofs.Table.{word_in}
 
@@ -84,6 +84,15 @@ module _ (s tb : List ℕ) where
 
 -- ---- comments
 
+-- the texts of comments lie in the text
+pub comments_texts : (s tb : List ℕ) (k i : ℕ) (cs : List Slice) → CommentsAt s tb k i cs → Texts s tb i (i + length cs)
+comments_texts s tb k i [] h j a b = absurd (omega arith)
+comments_texts s tb k i (c ∷ cs) h j a b = go (cases_lt i j) (comments_texts s tb k (i + 1) cs h.1 j)
+  where
+    go : (i < j) ⊎ (j ≤ i) → (i + 1 ≤ j → j < i + 1 + length cs → Within s tb j) → Within s tb j
+    go (inl d) f = f (omega arith) (omega arith)
+    go (inr d) f = subst (Within s tb) (omega arith) h.0.in_text
+
 -- a record of a kind among comments
 pub comments_kind : (s tb : List ℕ) (k i : ℕ) (cs : List Slice) → CommentsAt s tb k i cs → (j : ℕ) → i ≤ j → j < i + length cs → word tb j 0 ≡ k
 comments_kind s tb k i [] h j a b = absurd (omega arith)
@@ -120,6 +129,10 @@ module _ (s tb : List ℕ) where
         let e : r ≡ i + length p = tree_head (tree sp p v x) h a in
         let q : word tb r 4 ≡ value_size v = value_size_lem s tb r v (tree_value (tree sp p v x) h a) in
         subst (λ (j : ℕ). SuffixAt s tb end j x) (omega arith) h.2
+
+    pub tree_texts : (t : TokenTree) → TreeAt s tb end i t → AfterPrefix tb i r → Texts s tb i r
+    unfolding TreeAt
+    tree_texts (tree sp p v x) h a = subst (λ (j : ℕ). Texts s tb i j) (sym (tree_head (tree sp p v x) h a)) (comments_texts s tb PREFIX_COMMENT i p h.0)
 
     tree_ends : (t : TokenTree) → TreeAt s tb end i t → AfterPrefix tb i r → r + word tb r 4 + suffix_size (suffix_of t) ≡ i + tree_size t
     unfolding TreeAt tree_size
@@ -262,6 +275,9 @@ module _ (s tb : List ℕ) (end : ℕ) where
   pub paired_end : (i : ℕ) (cl : List Slice) → PairedAt s tb end i no_pairs cl → end ≡ i + length cl
   unfolding pairs_size
   paired_end i cl h = let e : end ≡ i + 0 + length cl = h.all in omega arith
+
+  pub paired_texts : (j : ℕ) (cl : List Slice) → PairedAt s tb end j no_pairs cl → Texts s tb j end
+  paired_texts j cl h = subst (λ (k : ℕ). Texts s tb j k) (sym (paired_end j cl h)) (comments_texts s tb CLOSING_COMMENT j cl (paired_closing j cl h))
 
   pub no_more : (j : ℕ) (cl : List Slice) → PairedAt s tb end j no_pairs cl → more_at tb end j ≡ false
   no_more j cl h = more_closing j cl (paired_closing j cl h) (paired_end j cl h)

@@ -18,13 +18,14 @@ const END: usize = 3;
 
 const SIZE: usize = 4;
 
+// Each is lent for itself: a piece of the text can be kept where the table is written again.
 #[derive(Clone, Copy)]
-pub struct Sheet<'a> {
+pub struct Sheet<'a, 'b> {
     pub text: &'a [u8],
-    pub table: &'a [u32],
+    pub table: &'b [u32],
 }
 
-impl<'a> Sheet<'a> {
+impl<'a, 'b> Sheet<'a, 'b> {
     // ---- a record
 
     // Word k of record i, and 0 past the end. C's words are u32; they are answered as places and numbers of records, so each of the
