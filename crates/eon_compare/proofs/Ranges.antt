@@ -10,57 +10,71 @@ use Rattle.eon_table.proofs.Table.{records_all}
 use Rattle.eon_compare.specs.Ranges.{same_record}
 
 module _ (s ta t tb : List ℕ) where
-  -- the comparison of n records from i on
-  abbrev Same : ℕ → ℕ → Bool
-  Same i n = same_records s (records_of ta i n) t (records_of tb i n)
+  -- the comparison of n records from i and from j on
+  abbrev pub Same : ℕ → ℕ → ℕ → Bool
+  Same i j n = same_records s (records_of ta i n) t (records_of tb j n)
 
-  -- and of those up to `end`
+  -- of those up to `end`, at the same numbers
   abbrev pub SameTo : ℕ → ℕ → Bool
-  SameTo end i = Same i (end - i)
+  SameTo end i = Same i i (end - i)
 
   abbrev pub SameAt : ℕ → Bool
   SameAt i = same_record s (record_of ta i) t (record_of tb i)
 
   -- ranges are compared part by part
-  same_split : (k m i : ℕ) → Same i (k + m) ≡ Same i k && Same (i + k) m
+  same_split : (k m i j : ℕ) → Same i j (k + m) ≡ Same i j k && Same (i + k) (j + k) m
   unfolding records_of
-  same_split zero m i = rw (zero-add m, add-zero i)
-  same_split (suc k) m i =
-      ap (λ (n : ℕ). Same i n) (suc-add k m)
-      ∙ ap (λ (b : Bool). SameAt i && b) (same_split k m (suc i))
-      ∙ sym (and_assoc (SameAt i) (Same (suc i) k) (Same (suc i + k) m))
-      ∙ ap (λ (x : ℕ). SameAt i && Same (suc i) k && Same x m) (suc-add i k ∙ sym (add-suc i k))
+  same_split zero m i j = rw (zero-add m, add-zero i, add-zero j)
+  same_split (suc k) m i j =
+      ap (λ (n : ℕ). Same i j n) (suc-add k m)
+      ∙ ap (λ (b : Bool). same_record s (record_of ta i) t (record_of tb j) && b) (same_split k m (suc i) (suc j))
+      ∙ sym (and_assoc (same_record s (record_of ta i) t (record_of tb j)) (Same (suc i) (suc j) k) (Same (suc i + k) (suc j + k) m))
+      ∙ ap₂ (λ (x y : ℕ). same_record s (record_of ta i) t (record_of tb j) && Same (suc i) (suc j) k && Same x y m) (suc-add i k ∙ sym (add-suc i k)) (suc-add j k ∙ sym (add-suc j k))
 
-  range_part : (end i j : ℕ) → i ≤ j → j ≤ end → SameTo end i ≡ SameTo j i && SameTo end j
-  range_part end i j h l =
+  module _ (i j n : ℕ) where
+    pub range_part : (x k : ℕ) → x + k ≤ n → Same (i + x) (j + x) (n - x) ≡ Same (i + x) (j + x) k && Same (i + (x + k)) (j + (x + k)) (n - (x + k))
+    range_part x k h =
+        let a : n - x ≡ k + (n - (x + k)) = omega arith in
+        ap (Same (i + x) (j + x)) a
+        ∙ same_split k (n - (x + k)) (i + x) (j + x)
+        ∙ ap₂ (λ (y z : ℕ). Same (i + x) (j + x) k && Same y z (n - (x + k))) (omega arith) (omega arith)
+
+    pub range_one : (x : ℕ) → x < n → Same (i + x) (j + x) (n - x) ≡ same_record s (record_of ta (i + x)) t (record_of tb (j + x)) && Same (i + (x + 1)) (j + (x + 1)) (n - (x + 1))
+    unfolding records_of
+    range_one x h =
+        range_part x 1 (omega arith)
+        ∙ ap (λ (b : Bool). b && Same (i + (x + 1)) (j + (x + 1)) (n - (x + 1))) (and-true (same_record s (record_of ta (i + x)) t (record_of tb (j + x))))
+
+  to_part : (end i j : ℕ) → i ≤ j → j ≤ end → SameTo end i ≡ SameTo j i && SameTo end j
+  to_part end i j h l =
       let a : end - i ≡ (j - i) + (end - j) = omega arith in
       let b : i + (j - i) ≡ j = omega arith in
-      ap (Same i) a ∙ same_split (j - i) (end - j) i ∙ ap (λ (x : ℕ). Same i (j - i) && Same x (end - j)) b
+      ap (Same i i) a ∙ same_split (j - i) (end - j) i i ∙ ap (λ (x : ℕ). Same i i (j - i) && Same x x (end - j)) b
 
-  range_one : (end i : ℕ) → i < end → SameTo end i ≡ SameAt i && SameTo end (i + 1)
+  to_one : (end i : ℕ) → i < end → SameTo end i ≡ SameAt i && SameTo end (i + 1)
   unfolding records_of
-  range_one end i h =
+  to_one end i h =
       let a : (i + 1) - i ≡ 1 = omega arith in
-      range_part end i (i + 1) (omega arith) (omega arith) ∙ ap (λ (n : ℕ). Same i n && SameTo end (i + 1)) a ∙ ap (λ (b : Bool). b && SameTo end (i + 1)) (and-true (SameAt i))
+      to_part end i (i + 1) (omega arith) (omega arith) ∙ ap (λ (n : ℕ). Same i i n && SameTo end (i + 1)) a ∙ ap (λ (b : Bool). b && SameTo end (i + 1)) (and-true (SameAt i))
 
   -- a turn: the range says `w`
   module _ (end i : ℕ) (w : Bool) (inv : SameTo end i ≡ w) (h : i < end) where
     pub one_fails : SameAt i ≡ false → false ≡ w
-    one_fails e = sym (range_one end i h ∙ ap (λ (b : Bool). b && SameTo end (i + 1)) e) ∙ inv
+    one_fails e = sym (to_one end i h ∙ ap (λ (b : Bool). b && SameTo end (i + 1)) e) ∙ inv
 
     pub one_goes : SameAt i ≡ true → SameTo end (i + 1) ≡ w
-    one_goes e = sym (range_one end i h ∙ ap (λ (b : Bool). b && SameTo end (i + 1)) e) ∙ inv
+    one_goes e = sym (to_one end i h ∙ ap (λ (b : Bool). b && SameTo end (i + 1)) e) ∙ inv
 
   module _ (end i j : ℕ) (w : Bool) (inv : SameTo end i ≡ w) (h : i ≤ j) (l : j ≤ end) where
     pub part_fails : SameTo j i ≡ false → false ≡ w
-    part_fails e = sym (range_part end i j h l ∙ ap (λ (b : Bool). b && SameTo end j) e) ∙ inv
+    part_fails e = sym (to_part end i j h l ∙ ap (λ (b : Bool). b && SameTo end j) e) ∙ inv
 
     pub part_goes : SameTo j i ≡ true → SameTo end j ≡ w
-    part_goes e = sym (range_part end i j h l ∙ ap (λ (b : Bool). b && SameTo end j) e) ∙ inv
+    part_goes e = sym (to_part end i j h l ∙ ap (λ (b : Bool). b && SameTo end j) e) ∙ inv
 
   pub range_none : (end i : ℕ) → end ≤ i → SameTo end i ≡ true
   unfolding records_of
-  range_none end i h = let a : end - i ≡ 0 = omega arith in ap (Same i) a
+  range_none end i h = let a : end - i ≡ 0 = omega arith in ap (Same i i) a
 
 -- ---- the call
 

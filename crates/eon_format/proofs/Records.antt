@@ -4,7 +4,7 @@ use Rattle.eon_spec.specs.Tree.{Slice}
 use Rattle.eon_spec.specs.Layout.{Settings, add_indent, suffix_comment, indented_comments, closing}
 use Rattle.eon_laws.proofs.Facts.{clash}
 use Rattle.eon_format.specs.Lines.{lines, closing_lines}
-use Rattle.eon_table.specs.Words.{has_suffix, text_at}
+use Rattle.eon_table.specs.Words.{has_suffix, text_at, Within}
 use Rattle.eon_table.specs.TreeAt.{SuffixAt, CommentsAt}
 
 -- ---- comments
@@ -51,6 +51,10 @@ unfolding closing_lines
 closing_none s tb o n i end empty h = let d : end - i ≡ 0 = omega arith in rw d
 
 -- ---- suffix comments
+
+pub suffix_within : (s tb : List ℕ) (end i : ℕ) (x : Option Slice) → SuffixAt s tb end i x → has_suffix tb end i ≡ true → Within s tb i
+suffix_within s tb end i None h e = clash e h
+suffix_within s tb end i (Some c) h e = h.1.in_text
 
 pub suffix_some : (s tb : List ℕ) (o : Settings) (end i : ℕ) (x : Option Slice) → SuffixAt s tb end i x → has_suffix tb end i ≡ true → (32 ∷ []) ++ text_at s tb i ≡ suffix_comment o x
 suffix_some s tb o end i None h e = clash e h

@@ -14,7 +14,7 @@ use Rattle.eon_format.specs.Long.{long_list, long_map, long_variant, pair_text, 
 use Rattle.eon_one_line.proofs.Rows.{more_list, more_map}
 use Rattle.eon_format.proofs.Walk.{Paired, paired_empty, paired_done, paired_all, map_content_lem}
 use Rattle.eon_table.proofs.Here.{list_is, map_is}
-use Rattle.eon_table.specs.Words.{word, text_at, more_at}
+use Rattle.eon_table.specs.Words.{word, text_at, more_at, Within}
 use Rattle.eon_table.specs.TreeAt.{PairedAt, SomeList, SomeMap, SomeVariant, ValueAt, InsideAt, value_of}
 use Rattle.eon_laws.proofs.Records.{tree_size, value_size, trees_size, pairs_size}
 use Rattle.eon_table.proofs.Walk.{tree_pos, value_pos, value_kind, value_size_lem, variant_inside, paired_end, paired_closing}
@@ -110,6 +110,10 @@ module _ (s tb : List ℕ) (i : ℕ) where
   pub variant_text : (m : Slice) (vs : TokenTrees) (cl : List Slice) → ValueAt s tb i (variant_of m vs cl) → text_at s tb i ≡ m.bytes
   unfolding ValueAt
   variant_text m vs cl h = h.4
+
+  pub variant_within : (m : Slice) (vs : TokenTrees) (cl : List Slice) → ValueAt s tb i (variant_of m vs cl) → Within s tb i
+  unfolding ValueAt
+  variant_within m vs cl h = h.3
 
   module _ (o : Settings) (n : ℕ) {A : Type 0} (puts : A → List ℕ → A → Type 0) {from to : A} where
     pub list_value : (v : TokenValue) → ValueAt s tb i v → flat_at s tb i ≡ false → word tb i 0 ≡ 4 →

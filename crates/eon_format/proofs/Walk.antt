@@ -8,10 +8,10 @@ use Rattle.eon_laws.proofs.Facts.{clash}
 use Rattle.eon_format.proofs.Records.{lines_comments, closing_comments}
 use Rattle.eon_put.proofs.Going.{Going, Appends, put_as, going_step, going_end}
 use Rattle.eon_format.specs.Long.{pair_text, Found}
-use Rattle.eon_table.specs.Words.{more_at, AfterPrefix, word}
+use Rattle.eon_table.specs.Words.{more_at, AfterPrefix, word, Texts}
 use Rattle.eon_table.specs.TreeAt.{NextAt, SuffixAt, PairedAt, SomeTree, TreeAt, ValueAt, InsideAt, kind_of, PairAt, SomePair, value_of}
 use Rattle.eon_laws.proofs.Records.{tree_size, trees_size, pairs_size}
-use Rattle.eon_table.proofs.Walk.{list_values, map_pairs, tree_pos, value_kind, value_not, bare_value_lem, inside_next, inside_tree, inside_in_lem, inside_closing, inside_end, tree_not_closing, tree_head, tree_value, tree_suffix, paired_first, paired_end, more_none, more_tree, no_more, one_more, paired_next, variant_inside}
+use Rattle.eon_table.proofs.Walk.{comments_texts, list_values, map_pairs, tree_pos, value_kind, value_not, bare_value_lem, inside_next, inside_tree, inside_in_lem, inside_closing, inside_end, tree_not_closing, tree_head, tree_value, tree_suffix, paired_first, paired_end, more_none, more_tree, no_more, one_more, paired_next, variant_inside}
 
 module _ (s tb : List ℕ) where
   module _ (end i r : ℕ) where
@@ -47,6 +47,9 @@ module _ (s tb : List ℕ) (end : ℕ) where
     pub ts : TokenTrees
     pub inside : InsideAt s tb end j ts cl
     pub going : Going puts from total to (content (eqb j base) ts)
+
+  pub inside_texts : (j : ℕ) (cl : List Slice) → InsideAt s tb end j no_trees cl → Texts s tb j end
+  inside_texts j cl h = subst (λ (k : ℕ). Texts s tb j k) (sym (inside_end s tb end j cl h)) (comments_texts s tb 9 j cl (inside_closing s tb end j cl h))
 
 module _ {s tb : List ℕ} {end : ℕ} where
   module _ {A : Type 0} (puts : A → List ℕ → A → Type 0) {from : A} {total : List ℕ} {content : Bool → TokenTrees → List ℕ} {cl : List Slice} {base j : ℕ} {to : A} where

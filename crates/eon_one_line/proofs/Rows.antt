@@ -134,6 +134,26 @@ module _ (s tb : List ℕ) (i : ℕ) where
   no_map : {A : Type 0} (kvs : KeyValues) (cl : List Slice) → ValueAt s tb i (map_of kvs cl) → Long → flat_at s tb i ≡ true → A
   no_map kvs cl h l f = clash (flat_map s tb i l (value_kind s tb i (map_of kvs cl) h) ∙ f) refl
 
+  inside_plains : (vs : TokenTrees) (cl : List Slice) → InsideAt s tb (i + word tb i 4) (i + 1) vs cl → on_one_line vs cl ≡ true → (j : ℕ) → i + 1 ≤ j → j < i + word tb i 4 → Plain s tb j
+  inside_plains vs cl h e =
+      row_plains s tb (i + word tb i 4) vs (i + 1) (subst (λ (x : List Slice). InsideAt s tb (i + word tb i 4) (i + 1) vs x) (one_closing vs cl e) h) (one_simple vs cl e)
+
+  pub flat_plains : (v : TokenValue) → ValueAt s tb i v → Long → flat_at s tb i ≡ true → (j : ℕ) → i + 1 ≤ j → j < i + word tb i 4 → Plain s tb j
+  unfolding value_size
+  flat_plains (identifier b) h l f = no_leaf (identifier b) h refl l
+  flat_plains (number b) h l f = no_leaf (number b) h refl l
+  flat_plains (quoted_string b) h l f = no_leaf (quoted_string b) h refl l
+  flat_plains (list_of vs cl) h l f =
+      let g = list_inside_lem s tb i vs cl h in
+      inside_plains vs cl g (flat_one_line vs cl 4 g (value_kind s tb i (list_of vs cl) h) (λ z. omega arith) l f)
+  flat_plains (map_of kvs cl) h l f = no_map kvs cl h l f
+  flat_plains (variant_of m vs cl) h l f =
+      let g = variant_inside s tb i m vs cl h in
+      inside_plains vs cl g (flat_one_line vs cl 6 g (value_kind s tb i (variant_of m vs cl) h) (λ z. omega arith) l f)
+
+  pub flat_not_map : (v : TokenValue) → ValueAt s tb i v → Long → flat_at s tb i ≡ true → word tb i 0 ≡ 5 → ⊥
+  flat_not_map v h l f e = clash (flat_map s tb i l e ∙ f) refl
+
   module _ (o : Settings) (n : ℕ) where
     row_inside : (vs : TokenTrees) (cl : List Slice) → InsideAt s tb (i + word tb i 4) (i + 1) vs cl → on_one_line vs cl ≡ true →
         plain_line s tb (i + 1) (i + word tb i 4 - (i + 1)) ≡ one_line o n vs

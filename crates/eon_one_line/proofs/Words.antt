@@ -1,8 +1,28 @@
 -- The one-line rule and what it writes, by the table's words, case by case.
-use Rattle.std.proofs.Common.{◌≡◌, refl, sym, ap, ◌∙◌, Bool, true, false, not, cond, List, [], ◌++◌, ℕ, zero, suc, ◌+◌, ◌-◌, ◌≤◌, ◌<◌, arith, ltb, eqb, lt-ltb, le-ltb, eq-eqb, ne_eqb}
+use Rattle.std.proofs.Common.{◌≡◌, refl, sym, ap, ◌∙◌, Bool, true, false, not, cond, List, [], ◌∷◌, ◌++◌, length, take, drop, get_or, drop-cons, ℕ, zero, suc, ◌+◌, ◌-◌, ◌≤◌, ◌<◌, add-one, arith, ltb, eqb, lt-ltb, le-ltb, eq-eqb, ne_eqb}
 use Rattle.eon_spec.specs.Base.{elem, codes}
-use Rattle.eon_table.specs.Words.{word, has_suffix, text_at}
+use Rattle.eon_table.specs.Words.{word, has_suffix, text_at, part}
+use Rattle.eon_table.proofs.Parts.{part_past}
 use Rattle.eon_one_line.specs.Flat.{comma_at, simple_at, width_at, line_at, one_line_at, flat_at, plain_at, plain_line}
+
+-- ---- a part of a text
+
+pub part_cons : (s : List ℕ) (j to : ℕ) → j < to → j < length s → part s j to ≡ get_or s j 0 ∷ part s (j + 1) to
+part_cons s j to h k =
+    let e : to - j ≡ suc (to - (j + 1)) = omega arith in
+    ap (λ (l : List ℕ). take (to - j) l) (drop-cons s j 0 k)
+    ∙ ap (λ (n : ℕ). take n (get_or s j 0 ∷ drop (suc j) s)) e
+    ∙ ap (λ (n : ℕ). get_or s j 0 ∷ take (to - (j + 1)) (drop n s)) (sym (add-one j))
+
+-- a line feed in a part
+pub feed_here : (s : List ℕ) (j to : ℕ) → j < to → j < length s → get_or s j 0 ≡ 10 → elem 10 (part s j to) ≡ true
+feed_here s j to h k e = ap (elem 10) (part_cons s j to h k) ∙ ap (λ (x : ℕ). elem 10 (x ∷ part s (j + 1) to)) e
+
+pub feed_on : (s : List ℕ) (j to : ℕ) → j < to → j < length s → (get_or s j 0 ≡ 10 → ⊥) → elem 10 (part s j to) ≡ elem 10 (part s (j + 1) to)
+feed_on s j to h k e = ap (elem 10) (part_cons s j to h k) ∙ rw (ne_eqb 10 (get_or s j 0) (λ q. e (sym q)))
+
+pub feed_past : (s : List ℕ) (j to : ℕ) → length s ≤ j → elem 10 (part s j to) ≡ elem 10 (part s (j + 1) to)
+feed_past s j to h = ap (elem 10) (sym (part_past s j to h) ∙ part_past s (j + 1) to (omega arith))
 
 -- ---- plain values
 

@@ -4,7 +4,7 @@ use Rattle.eon_spec.specs.declared.Run.{Run}
 use Rattle.eon_spec.specs.Tree.{TokenTree}
 use Rattle.eon_spec.specs.Records.{tree_records, words}
 use Rattle.eon_spec.specs.Layout.{defaults, default_options, format}
-use Rattle.eon_spec.specs.Calls.{Outcome, outcome_of, done, refused_with, nowhere, after, written, read_text, read_call, read_finished, is_finished, format_call}
+use Rattle.eon_spec.specs.Calls.{Outcome, outcome_of, done, refused_with, nowhere, after, written, read_text, read_call, read_finished, is_finished, same_records, format_call, compare_call}
 use Rattle.eon_spec.specs.Runs.{Premises, Suffices, wrote, run_writes, evening_text, IsRun, Leaves, TwoRuns, ShareText}
 use Rattle.eon_laws.proofs.Facts.{list_same}
 use Rattle.eon_laws.proofs.Records.{words_length}
@@ -78,3 +78,9 @@ module _ (s : List ℕ) (a : TokenTree) (p : Premises s a) (table1 out1 : List �
       let x : wrote (after (outcome_of r1.written) out1') ≡ format defaults a = ap wrote i1.writes ∙ evening_is s a table1 out1 p.accepted m1 in
       let y : wrote (after (outcome_of r2.written) out2') ≡ format defaults b = ap wrote i2.writes ∙ evening_is t b table2 out2 q.accepted m2 in
       (λ w. written_compared s a p t b q (sym x ∙ w ∙ y), λ c. x ∙ compared_written s a p t b q c ∙ sym y)
+
+-- the comparison call on two tables just filled
+pub tables_compared : (s : List ℕ) (a : TokenTree) (t : List ℕ) (b : TokenTree) (old1 old2 : List ℕ) → read_text s ≡ done a → read_text t ≡ done b
+    → compare_call s (written (words (tree_records a)) old1) t (written (words (tree_records b)) old2) ≡ done (same_records s (tree_records a) t (tree_records b))
+unfolding compare_call
+tables_compared s a t b old1 old2 e f = rw (found_finished s a e old1, found_finished t b f old2)
