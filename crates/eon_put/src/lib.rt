@@ -1,7 +1,7 @@
 // Where layout puts its bytes: a lent memory that is written, or one that is only measured.
 #![tactic(auto)]
 
-ghost use Rattle.std.specs.Prelude.{List, [], ◌∷◌, ◌++◌, ℕ, ◌≤◌, length};
+ghost use Rattle.std.specs.Prelude.{◌≡◌, List, [], ◌∷◌, ◌++◌, ℕ, ◌≤◌, length};
 ghost use Rattle.std.specs.Option.{ForSome};
 ghost use Rattle.eon_spec.specs.Layout.{text_of, settings_of, add_indent};
 
@@ -81,8 +81,18 @@ impl Sink for Writer<'_> {
             let n = bytes.len().min(self.out.len() - at);
             // Before the copy, so that nothing has to be kept over it.
             self.at = (n == bytes.len()).then_some(at + n);
-            self.out[at..at + n].copy_from_slice(&bytes[..n]);
+            store(&mut self.out[at..at + n], &bytes[..n]);
         }
+    }
+}
+
+// One after the other: `copy_from_slice` would have C's archive ask for memmove.
+fn store(to: &mut [u8], from: &[u8])
+    requires { length to.old ≡ length from.now }
+    ensures { to.new ≡ from.now }
+{
+    for i in 0..from.len() {
+        to[i] = from[i];
     }
 }
 
@@ -109,6 +119,10 @@ pub fn add_indent<S: Sink>(options: &FormatOptions, n: usize, sink: &mut S)
     ensures { S.puts sink.old (add_indent (settings_of options.now) n) sink.new }
 {
     let text = options.indentation.text();
+    // Without an indentation a deep text costs no more than a flat one.
+    if text.is_empty() {
+        return;
+    }
     for _ in 0..n {
         put_text(text, sink);
     }
