@@ -1,5 +1,5 @@
 -- The characters of a text without carriage returns, one by one.
-use Rattle.std.proofs.Common.{◌≡◌, ℕ, zero, suc, ◌-◌, ◌<◌, ◌≤◌, List, [], ◌∷◌, map, length, take, drop, sym, refl, ap, ◌∙◌, arith, length-drop, take-append-drop, eq-eqb, ne_eqb}
+use Rattle.std.proofs.Common.{◌≡◌, ℕ, zero, suc, ◌-◌, ◌<◌, ◌≤◌, true, nat_lt, List, [], ◌∷◌, map, length, get_or, take, drop, sym, refl, ap, ◌∙◌, arith, length-drop, take-append-drop, eq-eqb, ne_eqb}
 use Rattle.eon_spec.specs.Base.{elem}
 use Rattle.eon_laws.proofs.Facts.{nor_right, elem_append}
 use Rattle.eon_spec.specs.Utf8.{char_len, chars_from, chars, decode, code_point, Character, well_formed_len}
@@ -9,7 +9,7 @@ use Rattle.eon_unescape.specs.Views.{kept, Formed, BytesOf, TailOf}
 use Rattle.eon_utf8.specs.Post.{StartsWith}
 use Rattle.eon_utf8.specs.declared.Char.{Char}
 use Rattle.std.proofs.lemmas.List.{take_rest}
-use Rattle.eon_laws.proofs.Utf8.{goes_on}
+use Rattle.eon_laws.proofs.Utf8.{goes_on, ascii_char}
 
 chars_skip : (k : ℕ) (s : List ℕ) → chars_from k s ≡ chars_from 0 (drop k s)
 unfolding chars_from
@@ -63,3 +63,11 @@ module _ (s : List ℕ) (c : Char) (h : StartsWith s c) where
 
   pub rest_bytes : BytesOf s (take (length s - c.len) (drop c.len s))
   rest_bytes x e = rw (take_rest s c.len) (nor_right (elem x (take c.len s)) (elem x (drop c.len s)) (sym (elem_append x (take c.len s) (drop c.len s)) ∙ rw (take-append-drop c.len s) e))
+
+-- a byte of ASCII is a character
+pub ascii_starts : (s : List ℕ) (c : ℕ) → 0 < length s → c ≡ get_or s 0 0 → nat_lt c 0x80 ≡ true → StartsWith s (record { code = c; len = 1 })
+ascii_starts [] c p e h = absurd (omega arith)
+ascii_starts (b ∷ s) c p e h = record { is = ascii_char b s (rw e at h); some = omega arith; inside = omega arith; point = e }
+
+pub tail_whole : (s : List ℕ) → TailOf s s
+tail_whole s = let z : length s - length s ≡ 0 = omega arith in rw z refl

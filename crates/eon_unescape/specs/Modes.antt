@@ -1,9 +1,11 @@
 -- What the functions' answers say.
-use Rattle.std.specs.Prelude.{ℕ, List, [], Result, Ok, Err}
+use Rattle.std.specs.Prelude.{ℕ, ◌<◌, List, [], Result, Ok, Err}
 use Rattle.eon_spec.specs.Refused.{number_of}
 use Rattle.eon_spec.specs.Unquote.{value, fault, push, unescape, plain, backslash, blanks, unicode, digits}
 use Rattle.eon_spec.specs.Unquote as unquoting
 use Rattle.eon_spec.specs.declared.refusal.Reason.{Reason}
+use Rattle.eon_unescape.specs.declared.code_point.CodeStep.{CodeStep}
+use Rattle.eon_unescape.specs.declared.code_point.CodeStep.TheVariants as codes
 use Rattle.eon_unescape.specs.declared.digits.Digits.{Digits}
 use Rattle.eon_unescape.specs.declared.mode.Mode.{Mode}
 use Rattle.eon_unescape.specs.declared.mode.Mode.TheVariants as modes
@@ -27,6 +29,18 @@ abbrev pub onward : Result Step Reason → List ℕ → unquoting.Unescaped
 onward (Ok (Go m)) s = reads_by m s
 onward (Ok (Put c m)) s = push c (reads_by m s)
 onward (Err r) s = fault (number_of r)
+
+-- the same of a step that gives a number
+abbrev pub onward_code : Result CodeStep Reason → List ℕ → unquoting.Unescaped
+onward_code (Ok (codes.Go m)) s = reads_by m s
+onward_code (Ok (codes.Put c m)) s = push c (reads_by m s)
+onward_code (Err r) s = fault (number_of r)
+
+-- the number that is given, if any, is below b
+abbrev pub PutsBelow : ℕ → Result CodeStep Reason → Type 0
+PutsBelow b (Ok (codes.Go m)) = Unit {0}
+PutsBelow b (Ok (codes.Put c m)) = c < b
+PutsBelow b (Err r) = Unit {0}
 
 -- what the end of the text gives
 abbrev pub ended : Result (Unit {0}) Reason → unquoting.Unescaped

@@ -4,6 +4,7 @@ ghost use Rattle.eon_spec.specs.Base.{elem};
 ghost use Rattle.eon_spec.specs.Unquote.{lookup, escapes, hex_digit, white_space};
 
 // What a one-character escape gives.
+#[inline(always)]
 pub(crate) fn escape(c: char) -> Option<char>
     ensures { result ≡ lookup c escapes }
 {

@@ -1,10 +1,11 @@
 // The digits of `\u{..`.
 ghost use Rattle.std.specs.Prelude.{◌≡◌, ◌+◌, ◌*◌, ◌^◌, ◌<◌, ◌≤◌, ◌↔◌, IfSome, IsNone};
 
-// How many digits there are so far, and their number.
+// How many digits there are so far, and their number. The count is a word, so that each part of a `Mode` is stored and loaded whole: of two
+// u32 an escape took twice the time.
 #[derive(Clone, Copy)]
 pub struct Digits {
-    pub(crate) count: u32,
+    pub(crate) count: usize,
     pub(crate) value: u32,
     ghost few: { count ≤ 8 },
     ghost fits: { value < 2 ^ (4 * count) },

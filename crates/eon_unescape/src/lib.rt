@@ -1,4 +1,5 @@
-// The pass over the characters of a string, which writes its value. What one character does there stands in mode.rt.
+// The pass over the characters of a string, which writes its value. What one character does there stands in mode.rt, and for any
+// code point in code_point.rt.
 //
 // The texts are slices of bytes and no `str`: that would have to be shown whole characters before each cut, here and in eon_strings, where
 // one law says so of each piece behind it (`Formed`). They are pieces of a `Text` of eon_utf8, so that they are not longer than one.
@@ -12,9 +13,11 @@ ghost use Rattle.eon_unescape.specs.Modes.{reads_by};
 ghost use Rattle.eon_unescape.specs.Views.{kept, Formed, NextIs, Reads, is_bare, RunIs};
 
 mod chars;
+mod code_point;
 mod digits;
 mod mode;
 
+pub use code_point::{CodeStep, read_char};
 pub use digits::Digits;
 use eon_spec::Reason;
 pub use mode::{Mode, Step};
@@ -26,8 +29,22 @@ pub struct Next<'a> {
     pub rest: &'a [u8],
 }
 
-// The first character that is no carriage return. A turn takes a character of one to four bytes: no iterator over bytes hands those out.
+// The first character that is no carriage return. ASCII needs no decoding, and is most of what stands in an escape.
+#[inline(always)]
 pub fn next_kept(text: &[u8]) -> Option<Next<'_>>
+    ensures { NextIs text.now result }
+{
+    match text {
+        [b, rest @ ..] if b.is_ascii() && *b != b'\r' => Some(Next {
+            code: char::from(*b),
+            rest,
+        }),
+        _ => next_decoded(text),
+    }
+}
+
+// A turn takes a character of one to four bytes: no iterator over bytes hands those out.
+fn next_decoded(text: &[u8]) -> Option<Next<'_>>
     ensures { NextIs text.now result }
 {
     let mut rest = text;
@@ -52,8 +69,8 @@ pub fn unescape(text: &[u8], mode: Mode, out: &mut [u8]) -> Result<usize, Reason
     let mut len = 0;
     // A `loop`, since its turns take runs of different length: no iterator hands them out.
     loop {
-        let run = run_len(rest, mode);
-        len = put(out, len, &rest[..run]);
+        let run = copy_run(rest, mode, out, len);
+        len += run;
         let Some(next) = next_kept(&rest[run..]) else {
             mode.at_end()?;
             return Ok(len);
@@ -69,13 +86,20 @@ pub fn unescape(text: &[u8], mode: Mode, out: &mut [u8]) -> Result<usize, Reason
     }
 }
 
-// Outside an escape most bytes stand for themselves: those up to a backslash or a carriage return.
-fn run_len(text: &[u8], mode: Mode) -> usize
-    requires { Formed text.now }
-    ensures { RunIs text.now mode result }
+// Outside an escape most bytes stand for themselves, those up to a backslash or a carriage return, and are stored. How many there are.
+#[inline(always)]
+fn copy_run(text: &[u8], mode: Mode, out: &mut [u8], at: usize) -> usize
+    requires formed { Formed text.now }
+    requires room { at + length text.now < 2 ^ 64 }
+    ensures run { RunIs text.now mode result }
+    ensures written { out.new ≡ sets out.old at (take result text.now) }
 {
     match mode {
-        Mode::Literal | Mode::Plain => bare_len(text),
+        Mode::Literal | Mode::Plain => {
+            let run = bare_len(text);
+            put(out, at, &text[..run]);
+            run
+        }
         Mode::Backslash | Mode::Blanks | Mode::Unicode | Mode::Digits(_) => 0,
     }
 }
@@ -88,14 +112,17 @@ fn bare_len(text: &[u8]) -> usize
         .count()
 }
 
-// The bytes of a character.
-#[tactic(auto, using(crate::proofs::Writes::same_bytes))]
+// The bytes of a character; of ASCII, which most are, that byte.
+#[tactic(auto, using(crate::proofs::Writes::same_bytes, eon_laws::proofs::Encode::encode_one))]
 fn put_char(out: &mut [u8], at: usize, c: char) -> usize
     requires { at < 2 ^ 32 }
     ensures written { out.new ≡ sets out.old at (encode_char c) }
     ensures behind { result ≡ at + length (encode_char c) }
     ensures few { result ≤ at + 4 }
 {
+    if c.is_ascii() {
+        return put(out, at, &[c as u8]);
+    }
     let mut bytes = [0; 4];
     let encoded = c.encode_utf8(&mut bytes);
     put(out, at, encoded.as_bytes())
@@ -113,6 +140,16 @@ fn put(out: &mut [u8], at: usize, bytes: &[u8]) -> usize
         return end;
     }
     let n = bytes.len().min(out.len() - at);
-    out[at..at + n].copy_from_slice(&bytes[..n]);
+    store(&mut out[at..at + n], &bytes[..n]);
     end
+}
+
+// One after the other: `copy_from_slice` would have C's archive ask for memmove. eon_put has the same; neither crate stands on the other.
+fn store(to: &mut [u8], from: &[u8])
+    requires { length to.old ≡ length from.now }
+    ensures { to.new ≡ from.now }
+{
+    for i in 0..from.len() {
+        to[i] = from[i];
+    }
 }

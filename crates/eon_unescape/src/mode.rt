@@ -26,6 +26,7 @@ pub enum Step {
 }
 
 impl Mode {
+    #[inline(always)]
     pub fn read_char(self, c: char) -> Result<Step, Reason>
         ensures { (s : List ℕ) → reads_by self (c ∷ s) ≡ onward result s }
     {
@@ -54,6 +55,7 @@ impl Mode {
 }
 
 #[tactic(auto, unfolding(eon_spec::specs::Unquote::unescape))]
+#[inline(always)]
 fn in_plain(c: char) -> Step
     ensures { (s : List ℕ) → reads_by Mode.Plain (c ∷ s) ≡ onward (Ok result) s }
 {
@@ -64,6 +66,7 @@ fn in_plain(c: char) -> Step
 }
 
 #[tactic(auto, unfolding(eon_spec::specs::Unquote::unescape))]
+#[inline(always)]
 fn in_backslash(c: char) -> Result<Step, Reason>
     ensures { (s : List ℕ) → reads_by Mode.Backslash (c ∷ s) ≡ onward result s }
 {
@@ -78,6 +81,7 @@ fn in_backslash(c: char) -> Result<Step, Reason>
 }
 
 #[tactic(auto, unfolding(eon_spec::specs::Unquote::unescape))]
+#[inline(always)]
 fn in_blanks(c: char) -> Step
     ensures { (s : List ℕ) → reads_by Mode.Blanks (c ∷ s) ≡ onward (Ok result) s }
 {
@@ -88,6 +92,7 @@ fn in_blanks(c: char) -> Step
 }
 
 #[tactic(auto, unfolding(eon_spec::specs::Unquote::unescape))]
+#[inline(always)]
 fn in_unicode(c: char) -> Result<Step, Reason>
     ensures { (s : List ℕ) → reads_by Mode.Unicode (c ∷ s) ≡ onward result s }
 {
@@ -99,6 +104,7 @@ fn in_unicode(c: char) -> Result<Step, Reason>
 
 // Among the digits of `\u{..`, an underscore counts as none.
 #[tactic(auto, using(crate::proofs::Hex::digit_more), unfolding(eon_spec::specs::Unquote::unescape))]
+#[inline(always)]
 fn in_digits(digits: Digits, c: char) -> Result<Step, Reason>
     ensures { (s : List ℕ) → reads_by (Mode.Digits digits) (c ∷ s) ≡ onward result s }
 {

@@ -10,5 +10,5 @@ pub returns-clause-written : goal.returns-clause-written
 returns-clause-written c =
     let a = c.args in let n = c.min-n.result in
     let z : a.at + n - a.at ≡ n = omega arith in
-    let y = c.copy_from_slice.ensures.after in
+    let y = c.store.ensures in
     simp (z, y) (sym (sets_room a.bytes.now a.out.now a.at n (omega arith) c.min-n.ensures))

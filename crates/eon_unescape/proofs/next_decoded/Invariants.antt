@@ -1,6 +1,6 @@
 use Rattle.std.proofs.Common.{◌≡◌, ◌≤◌, length}
 use Rattle.eon_unescape.specs.Views.{kept, Formed, BytesOf, TailOf}
-use Rattle.eon_unescape.proofs.next_kept.Given as goal
+use Rattle.eon_unescape.proofs.next_decoded.Given as goal
 
 -- only carriage returns are passed
 abbrev pub invariant-loop-c : goal.invariant-loop-c
