@@ -43,8 +43,12 @@ fn is_letter(c: u8) -> bool
     c.is_ascii_alphabetic() || c == b'_'
 }
 
+// Small letters are told first, which most are.
 fn is_letter_or_digit(c: u8) -> bool
     ensures { result ≡ is_letter_or_digit c }
 {
-    c.is_ascii_alphanumeric() || c == b'_'
+    if c.is_ascii_lowercase() || c.is_ascii_digit() || c == b'_' {
+        return true;
+    }
+    c.is_ascii_uppercase()
 }
