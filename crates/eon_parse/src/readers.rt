@@ -1,13 +1,14 @@
 // The readers, one cycle: each compares the records that it reads with an old table, and stores them in another. Either may be empty.
-// A level of nesting is `value` and `core`: what else a level calls goes into `core`, whose frame then holds no walk or record twice, so
-// that deep texts need little stack.
+// A level of nesting is `nested`: what else a level calls goes into it, and its frame then holds few walks or records twice, so that deep
+// texts need little stack.
 //
 // What each asks, `Ready`, is a relation of the text, the cursor and the count, and no invariant of `Walk`: the definitions say which walk
 // a reader leaves, as a record of its fields, and only then is that walk known to be ready.
 //
 // The loops are `while`s: a turn ends where the reader of an item leaves off, which only it knows.
-ghost use Rattle.std.specs.Prelude.{◌≡◌, ◌-◌, length, IsSome};
+ghost use Rattle.std.specs.Prelude.{◌≡◌, ◌-◌, length, Some, IsSome};
 ghost use Rattle.eon_spec.specs.Token.{kind_number};
+ghost use Rattle.eon_spec.specs.declared.token_kind.TokenKind.TheVariants.{Identifier, Number};
 ghost use Rattle.eon_token.specs.Placed.{code_of};
 ghost use Rattle.eon_token.specs.Place.{span};
 ghost use Rattle.eon_parse.specs.Walk.{reason_of, refused_at, expect, one, two, inside, string_at, bare_at, reader, below};
@@ -78,6 +79,7 @@ pub fn map(text: &[u8], old: &[u32], out: &mut [u32], w: Walk, depth: usize) -> 
 }
 
 // A value with its comments (parse_token_tree). Its suffix comment is no record yet: a comma may replace it.
+#[inline(always)]
 #[cycle(reading)]
 fn value(text: &[u8], old: &[u32], out: &mut [u32], w: Walk, depth: usize) -> Result<Past, Stop>
     requires { Ready text.now w.cursor w.count }
@@ -96,11 +98,28 @@ fn value(text: &[u8], old: &[u32], out: &mut [u32], w: Walk, depth: usize) -> Re
     })
 }
 
-// A value behind its prefix comments.
-#[inline(never)]
+// A value behind its prefix comments. An identifier or a number is read here, so that it costs no call with a large frame.
+#[inline(always)]
 #[cycle(reading)]
 fn core(text: &[u8], old: &[u32], out: &mut [u32], w: Walk, depth: usize) -> Result<Walk, Stop>
     requires { Ready text.now w.cursor w.count }
+    ensures walk { result ≡ bared text.now old.now w (bare_at text.now (below depth text.now) (place w)) }
+    ensures stored { Stored out.old w (bare_at text.now (below depth text.now) (place w)) out.new }
+{
+    match w.kind() {
+        Some(TokenKind::Identifier) => Ok(leaf(text, old, out, w, RecordKind::Identifier)),
+        Some(TokenKind::Number) => Ok(leaf(text, old, out, w, RecordKind::Number)),
+        _ => nested(text, old, out, w, depth),
+    }
+}
+
+// A list, a map, a string or a variant.
+#[inline(never)]
+#[cycle(reading)]
+fn nested(text: &[u8], old: &[u32], out: &mut [u32], w: Walk, depth: usize) -> Result<Walk, Stop>
+    requires ready { Ready text.now w.cursor w.count }
+    requires no_name { w.cursor.peeked.kind ≡ Some Identifier → ⊥ }
+    requires no_number { w.cursor.peeked.kind ≡ Some Number → ⊥ }
     ensures walk { result ≡ bared text.now old.now w (bare_at text.now (below depth text.now) (place w)) }
     ensures stored { Stored out.old w (bare_at text.now (below depth text.now) (place w)) out.new }
 {
@@ -108,8 +127,6 @@ fn core(text: &[u8], old: &[u32], out: &mut [u32], w: Walk, depth: usize) -> Res
         return Err(no_value(text, w));
     };
     match kind {
-        TokenKind::Identifier => Ok(leaf(text, old, out, w, RecordKind::Identifier)),
-        TokenKind::Number => Ok(leaf(text, old, out, w, RecordKind::Number)),
         TokenKind::OpenList => {
             let i = list(text, old, out, w.enter(text), depth)?;
             close(

@@ -9,7 +9,7 @@ use Rattle.eon_parse.proofs.Left.{below_far, one_far, two_far, list_reach, map_r
 use Rattle.eon_parse.proofs.Readings.{turns_start, stands, inside_no, turned, inside_yes, item_ready, one_no, two_no, got_ready, one_yes, colon_next, colon_no, value_next, second_no, settle_next, two_yes, value_deep, core_ready, value_no, bare_ready, value_yes, inner_ready, container_no, close_ready, close_opens, container_yes, core_by, leaf_reads, starts, token_code, some_token, over_token, token_long, string_ready, string_plain, variant_ready, variant_no, variant_close, variant_opens, variant_yes, end_reads, none_reads}
 use Rattle.eon_parse.proofs.Steps.{opens, kind_yes, kind_no}
 use Rattle.eon_parse.proofs.readers.+reading.Goals as goal
-use Rattle.eon_parse.proofs.readers.+reading.Goals.{two-In_ok-k, string-After-enter-d, string-Else-not-next_is, core-In-OpenList, core-In-OpenBrace}
+use Rattle.eon_parse.proofs.readers.+reading.Goals.{two-In_ok-k, string-After-enter-d, string-Else-not-next_is, nested-In-OpenList, nested-In-OpenBrace}
 
 pub list-loop-out-init : goal.list-loop-out-init
 list-loop-out-init t c = turns_start c.requires
@@ -263,145 +263,145 @@ pub string-returns-clause-stored : goal.string-returns-clause-stored
 string-returns-clause-stored t c =
     (variant_yes _ _ _ _ c.requires.ready c.requires.token _ (below_far _ _) c.enter-d.ensures (paren t (goal.at.string-returns-clause-stored t c).Else-not-next_is) c.skip.ensures c.list.ensures.walk c.in_ok-i.was _ c.list.ensures.stored (ap (λ (b : Begun). begun b.kind b.base b.start c.enter-d.result.cursor.end) c.begin-2.ensures) _ c.close.ensures.walk _ c.close.ensures.stored).stored
 
-pub core-returns-in-Identifier-clause-walk : goal.core-returns-in-Identifier-clause-walk
-core-returns-in-Identifier-clause-walk t c =
-    let k : c.args.w.cursor.peeked.kind ≡ Some token.Identifier = sym c.kind.ensures ∙ c.in-Some.is ∙ ap Some c.in-Identifier.is in
+pub core-returns-in-Some-Identifier-clause-walk : goal.core-returns-in-Some-Identifier-clause-walk
+core-returns-in-Some-Identifier-clause-walk t c =
+    let k : c.args.w.cursor.peeked.kind ≡ Some token.Identifier = search rules in
     (core_by _ _ _ _ _ _ _ 10 (token_code _ c.args.w c.requires token.Identifier k) (leaf_reads _ _ _ _ 1 _ c.leaf.ensures.walk _ c.leaf.ensures.stored)).walk
 
-pub core-returns-in-Identifier-clause-stored : goal.core-returns-in-Identifier-clause-stored
-core-returns-in-Identifier-clause-stored t c =
-    let k : c.args.w.cursor.peeked.kind ≡ Some token.Identifier = sym c.kind.ensures ∙ c.in-Some.is ∙ ap Some c.in-Identifier.is in
+pub core-returns-in-Some-Identifier-clause-stored : goal.core-returns-in-Some-Identifier-clause-stored
+core-returns-in-Some-Identifier-clause-stored t c =
+    let k : c.args.w.cursor.peeked.kind ≡ Some token.Identifier = search rules in
     (core_by _ _ _ _ _ _ _ 10 (token_code _ c.args.w c.requires token.Identifier k) (leaf_reads _ _ _ _ 1 _ c.leaf.ensures.walk _ c.leaf.ensures.stored)).stored
 
-pub core-returns-in-Number-clause-walk : goal.core-returns-in-Number-clause-walk
-core-returns-in-Number-clause-walk t c =
-    let k : c.args.w.cursor.peeked.kind ≡ Some token.Number = sym c.kind.ensures ∙ c.in-Some.is ∙ ap Some c.in-Number.is in
-    (core_by _ _ _ _ _ _ _ 11 (token_code _ c.args.w c.requires token.Number k) (leaf_reads _ _ _ _ 2 _ c.leaf-in-Number.ensures.walk _ c.leaf-in-Number.ensures.stored)).walk
+pub core-returns-in-Some-Number-clause-walk : goal.core-returns-in-Some-Number-clause-walk
+core-returns-in-Some-Number-clause-walk t c =
+    let k : c.args.w.cursor.peeked.kind ≡ Some token.Number = search rules in
+    (core_by _ _ _ _ _ _ _ 11 (token_code _ c.args.w c.requires token.Number k) (leaf_reads _ _ _ _ 2 _ c.leaf-in-Some-Number.ensures.walk _ c.leaf-in-Some-Number.ensures.stored)).walk
 
-pub core-returns-in-Number-clause-stored : goal.core-returns-in-Number-clause-stored
-core-returns-in-Number-clause-stored t c =
-    let k : c.args.w.cursor.peeked.kind ≡ Some token.Number = sym c.kind.ensures ∙ c.in-Some.is ∙ ap Some c.in-Number.is in
-    (core_by _ _ _ _ _ _ _ 11 (token_code _ c.args.w c.requires token.Number k) (leaf_reads _ _ _ _ 2 _ c.leaf-in-Number.ensures.walk _ c.leaf-in-Number.ensures.stored)).stored
+pub core-returns-in-Some-Number-clause-stored : goal.core-returns-in-Some-Number-clause-stored
+core-returns-in-Some-Number-clause-stored t c =
+    let k : c.args.w.cursor.peeked.kind ≡ Some token.Number = search rules in
+    (core_by _ _ _ _ _ _ _ 11 (token_code _ c.args.w c.requires token.Number k) (leaf_reads _ _ _ _ 2 _ c.leaf-in-Some-Number.ensures.walk _ c.leaf-in-Some-Number.ensures.stored)).stored
 
 -- the token of the arm
-is_list : (t : ℕ) (c : core-In-OpenList t) → c.args.w.cursor.peeked.kind ≡ Some token.OpenList
+is_list : (t : ℕ) (c : nested-In-OpenList t) → c.args.w.cursor.peeked.kind ≡ Some token.OpenList
 is_list t c = sym c.kind.ensures ∙ c.in-Some.is ∙ ap Some c.in-OpenList.is
 
-is_map : (t : ℕ) (c : core-In-OpenBrace t) → c.args.w.cursor.peeked.kind ≡ Some token.OpenBrace
+is_map : (t : ℕ) (c : nested-In-OpenBrace t) → c.args.w.cursor.peeked.kind ≡ Some token.OpenBrace
 is_map t c = sym c.kind.ensures ∙ c.in-Some.is ∙ ap Some c.in-OpenBrace.is
 
-pub core-list-requires : goal.core-list-requires
-core-list-requires t c =
-    let k = is_list t (goal.at.core-list-requires t c).In-OpenList in
-    (omega (arith, c.decreases), inner_ready _ c.args.old.now c.args.out.now _ c.requires _ (list_reach _ _ (below_far c.args.depth _)) (over_token _ _ c.requires (some_token k)) c.enter.ensures)
+pub nested-list-requires : goal.nested-list-requires
+nested-list-requires t c =
+    let k = is_list t (goal.at.nested-list-requires t c).In-OpenList in
+    (omega (arith, c.decreases), inner_ready _ c.args.old.now c.args.out.now _ c.requires.ready _ (list_reach _ _ (below_far c.args.depth _)) (over_token _ _ c.requires.ready (some_token k)) c.enter.ensures)
 
-pub core-returns-in_err-i-in-OpenList-clause-walk : goal.core-returns-in_err-i-in-OpenList-clause-walk
+pub nested-returns-in_err-i-in-OpenList-clause-walk : goal.nested-returns-in_err-i-in-OpenList-clause-walk
 unfolding list_at
-core-returns-in_err-i-in-OpenList-clause-walk t c =
-    let k = is_list t (goal.at.core-returns-in_err-i-in-OpenList-clause-walk t c).In-OpenList in
+nested-returns-in_err-i-in-OpenList-clause-walk t c =
+    let k = is_list t (goal.at.nested-returns-in_err-i-in-OpenList-clause-walk t c).In-OpenList in
     let e : c.from_residual.result ≡ Err c.in_err-i-in-OpenList.field-0.0 = search rules in
-    e ∙ (core_by _ _ c.args.out.now _ _ _ _ 2 (token_code _ c.args.w c.requires token.OpenList k) (container_no _ _ _ _ c.requires _ (list_reach _ _ (below_far _ _)) (over_token _ _ c.requires (some_token k)) c.enter.ensures c.list.ensures.walk 4 token.CloseList _ 0 c.in_err-i-in-OpenList.was c.list.new.out)).walk
+    e ∙ (core_by _ _ c.args.out.now _ _ _ _ 2 (token_code _ c.args.w c.requires.ready token.OpenList k) (container_no _ _ _ _ c.requires.ready _ (list_reach _ _ (below_far _ _)) (over_token _ _ c.requires.ready (some_token k)) c.enter.ensures c.list.ensures.walk 4 token.CloseList _ 0 c.in_err-i-in-OpenList.was c.list.new.out)).walk
 
-pub core-returns-in_err-i-in-OpenList-clause-stored : goal.core-returns-in_err-i-in-OpenList-clause-stored
+pub nested-returns-in_err-i-in-OpenList-clause-stored : goal.nested-returns-in_err-i-in-OpenList-clause-stored
 unfolding list_at
-core-returns-in_err-i-in-OpenList-clause-stored t c =
-    let k = is_list t (goal.at.core-returns-in_err-i-in-OpenList-clause-stored t c).In-OpenList in
-    (core_by _ _ _ _ _ _ _ 2 (token_code _ c.args.w c.requires token.OpenList k) (container_no _ _ _ _ c.requires _ (list_reach _ _ (below_far _ _)) (over_token _ _ c.requires (some_token k)) c.enter.ensures c.list.ensures.walk 4 token.CloseList _ 0 c.in_err-i-in-OpenList.was c.list.new.out)).stored
+nested-returns-in_err-i-in-OpenList-clause-stored t c =
+    let k = is_list t (goal.at.nested-returns-in_err-i-in-OpenList-clause-stored t c).In-OpenList in
+    (core_by _ _ _ _ _ _ _ 2 (token_code _ c.args.w c.requires.ready token.OpenList k) (container_no _ _ _ _ c.requires.ready _ (list_reach _ _ (below_far _ _)) (over_token _ _ c.requires.ready (some_token k)) c.enter.ensures c.list.ensures.walk 4 token.CloseList _ 0 c.in_err-i-in-OpenList.was c.list.new.out)).stored
 
-pub core-close-requires-clause-ready : goal.core-close-requires-clause-ready
-core-close-requires-clause-ready t c =
-    let k = is_list t (goal.at.core-close-requires-clause-ready t c).In-OpenList in
-    close_ready _ _ _ _ c.requires _ (list_reach _ _ (below_far _ _)) (over_token _ _ c.requires (some_token k)) c.enter.ensures c.list.ensures.walk c.in_ok-i-in-OpenList.was _ c.list.ensures.stored
+pub nested-close-requires-clause-ready : goal.nested-close-requires-clause-ready
+nested-close-requires-clause-ready t c =
+    let k = is_list t (goal.at.nested-close-requires-clause-ready t c).In-OpenList in
+    close_ready _ _ _ _ c.requires.ready _ (list_reach _ _ (below_far _ _)) (over_token _ _ c.requires.ready (some_token k)) c.enter.ensures c.list.ensures.walk c.in_ok-i-in-OpenList.was _ c.list.ensures.stored
 
-pub core-close-requires-clause-begun : goal.core-close-requires-clause-begun
-core-close-requires-clause-begun t c =
-    let k = is_list t (goal.at.core-close-requires-clause-begun t c).In-OpenList in
-    close_opens _ _ _ _ c.requires _ (list_reach _ _ (below_far _ _)) (over_token _ _ c.requires (some_token k)) c.enter.ensures c.list.ensures.walk c.in_ok-i-in-OpenList.was _ c.list.ensures.stored kind.List _ _ 0 (starts _ c.args.w c.requires _ _ c.begin.ensures) (token_long _ c.args.w c.requires (some_token k)) (omega arith)
+pub nested-close-requires-clause-begun : goal.nested-close-requires-clause-begun
+nested-close-requires-clause-begun t c =
+    let k = is_list t (goal.at.nested-close-requires-clause-begun t c).In-OpenList in
+    close_opens _ _ _ _ c.requires.ready _ (list_reach _ _ (below_far _ _)) (over_token _ _ c.requires.ready (some_token k)) c.enter.ensures c.list.ensures.walk c.in_ok-i-in-OpenList.was _ c.list.ensures.stored kind.List _ _ 0 (starts _ c.args.w c.requires.ready _ _ c.begin.ensures) (token_long _ c.args.w c.requires.ready (some_token k)) (omega arith)
 
-pub core-returns-in_ok-i-in-OpenList-clause-walk : goal.core-returns-in_ok-i-in-OpenList-clause-walk
+pub nested-returns-in_ok-i-in-OpenList-clause-walk : goal.nested-returns-in_ok-i-in-OpenList-clause-walk
 unfolding list_at
-core-returns-in_ok-i-in-OpenList-clause-walk t c =
-    let k = is_list t (goal.at.core-returns-in_ok-i-in-OpenList-clause-walk t c).In-OpenList in
-    (core_by _ _ _ _ _ _ _ 2 (token_code _ c.args.w c.requires token.OpenList k) (container_yes _ _ _ _ c.requires _ (list_reach _ _ (below_far _ _)) (over_token _ _ c.requires (some_token k)) c.enter.ensures c.list.ensures.walk c.in_ok-i-in-OpenList.was _ c.list.ensures.stored kind.List token.CloseList _ 0 _ (starts _ c.args.w c.requires _ kind.List c.begin.ensures) _ _ c.close.ensures.walk c.close.ensures.stored)).walk
+nested-returns-in_ok-i-in-OpenList-clause-walk t c =
+    let k = is_list t (goal.at.nested-returns-in_ok-i-in-OpenList-clause-walk t c).In-OpenList in
+    (core_by _ _ _ _ _ _ _ 2 (token_code _ c.args.w c.requires.ready token.OpenList k) (container_yes _ _ _ _ c.requires.ready _ (list_reach _ _ (below_far _ _)) (over_token _ _ c.requires.ready (some_token k)) c.enter.ensures c.list.ensures.walk c.in_ok-i-in-OpenList.was _ c.list.ensures.stored kind.List token.CloseList _ 0 _ (starts _ c.args.w c.requires.ready _ kind.List c.begin.ensures) _ _ c.close.ensures.walk c.close.ensures.stored)).walk
 
-pub core-returns-in_ok-i-in-OpenList-clause-stored : goal.core-returns-in_ok-i-in-OpenList-clause-stored
+pub nested-returns-in_ok-i-in-OpenList-clause-stored : goal.nested-returns-in_ok-i-in-OpenList-clause-stored
 unfolding list_at
-core-returns-in_ok-i-in-OpenList-clause-stored t c =
-    let k = is_list t (goal.at.core-returns-in_ok-i-in-OpenList-clause-stored t c).In-OpenList in
-    (core_by _ _ _ _ _ _ _ 2 (token_code _ c.args.w c.requires token.OpenList k) (container_yes _ _ _ _ c.requires _ (list_reach _ _ (below_far _ _)) (over_token _ _ c.requires (some_token k)) c.enter.ensures c.list.ensures.walk c.in_ok-i-in-OpenList.was _ c.list.ensures.stored kind.List token.CloseList _ 0 _ (starts _ c.args.w c.requires _ kind.List c.begin.ensures) _ _ c.close.ensures.walk c.close.ensures.stored)).stored
+nested-returns-in_ok-i-in-OpenList-clause-stored t c =
+    let k = is_list t (goal.at.nested-returns-in_ok-i-in-OpenList-clause-stored t c).In-OpenList in
+    (core_by _ _ _ _ _ _ _ 2 (token_code _ c.args.w c.requires.ready token.OpenList k) (container_yes _ _ _ _ c.requires.ready _ (list_reach _ _ (below_far _ _)) (over_token _ _ c.requires.ready (some_token k)) c.enter.ensures c.list.ensures.walk c.in_ok-i-in-OpenList.was _ c.list.ensures.stored kind.List token.CloseList _ 0 _ (starts _ c.args.w c.requires.ready _ kind.List c.begin.ensures) _ _ c.close.ensures.walk c.close.ensures.stored)).stored
 
-pub core-map-requires : goal.core-map-requires
-core-map-requires t c =
-    let k = is_map t (goal.at.core-map-requires t c).In-OpenBrace in
-    (omega (arith, c.decreases), inner_ready _ c.args.old.now c.args.out.now _ c.requires _ (map_reach _ _ (below_far c.args.depth _)) (over_token _ _ c.requires (some_token k)) c.enter-in-OpenBrace.ensures)
+pub nested-map-requires : goal.nested-map-requires
+nested-map-requires t c =
+    let k = is_map t (goal.at.nested-map-requires t c).In-OpenBrace in
+    (omega (arith, c.decreases), inner_ready _ c.args.old.now c.args.out.now _ c.requires.ready _ (map_reach _ _ (below_far c.args.depth _)) (over_token _ _ c.requires.ready (some_token k)) c.enter-in-OpenBrace.ensures)
 
-pub core-returns-in_err-i-in-OpenBrace-clause-walk : goal.core-returns-in_err-i-in-OpenBrace-clause-walk
+pub nested-returns-in_err-i-in-OpenBrace-clause-walk : goal.nested-returns-in_err-i-in-OpenBrace-clause-walk
 unfolding map_at
-core-returns-in_err-i-in-OpenBrace-clause-walk t c =
-    let k = is_map t (goal.at.core-returns-in_err-i-in-OpenBrace-clause-walk t c).In-OpenBrace in
+nested-returns-in_err-i-in-OpenBrace-clause-walk t c =
+    let k = is_map t (goal.at.nested-returns-in_err-i-in-OpenBrace-clause-walk t c).In-OpenBrace in
     let e : c.from_residual-in_err-i-in-OpenBrace.result ≡ Err c.in_err-i-in-OpenBrace.field-0.0 = search rules in
-    e ∙ (core_by _ _ c.args.out.now _ _ _ _ 4 (token_code _ c.args.w c.requires token.OpenBrace k) (container_no _ _ _ _ c.requires _ (map_reach _ _ (below_far _ _)) (over_token _ _ c.requires (some_token k)) c.enter-in-OpenBrace.ensures c.map.ensures.walk 5 token.CloseBrace _ 0 c.in_err-i-in-OpenBrace.was c.map.new.out)).walk
+    e ∙ (core_by _ _ c.args.out.now _ _ _ _ 4 (token_code _ c.args.w c.requires.ready token.OpenBrace k) (container_no _ _ _ _ c.requires.ready _ (map_reach _ _ (below_far _ _)) (over_token _ _ c.requires.ready (some_token k)) c.enter-in-OpenBrace.ensures c.map.ensures.walk 5 token.CloseBrace _ 0 c.in_err-i-in-OpenBrace.was c.map.new.out)).walk
 
-pub core-returns-in_err-i-in-OpenBrace-clause-stored : goal.core-returns-in_err-i-in-OpenBrace-clause-stored
+pub nested-returns-in_err-i-in-OpenBrace-clause-stored : goal.nested-returns-in_err-i-in-OpenBrace-clause-stored
 unfolding map_at
-core-returns-in_err-i-in-OpenBrace-clause-stored t c =
-    let k = is_map t (goal.at.core-returns-in_err-i-in-OpenBrace-clause-stored t c).In-OpenBrace in
-    (core_by _ _ _ _ _ _ _ 4 (token_code _ c.args.w c.requires token.OpenBrace k) (container_no _ _ _ _ c.requires _ (map_reach _ _ (below_far _ _)) (over_token _ _ c.requires (some_token k)) c.enter-in-OpenBrace.ensures c.map.ensures.walk 5 token.CloseBrace _ 0 c.in_err-i-in-OpenBrace.was c.map.new.out)).stored
+nested-returns-in_err-i-in-OpenBrace-clause-stored t c =
+    let k = is_map t (goal.at.nested-returns-in_err-i-in-OpenBrace-clause-stored t c).In-OpenBrace in
+    (core_by _ _ _ _ _ _ _ 4 (token_code _ c.args.w c.requires.ready token.OpenBrace k) (container_no _ _ _ _ c.requires.ready _ (map_reach _ _ (below_far _ _)) (over_token _ _ c.requires.ready (some_token k)) c.enter-in-OpenBrace.ensures c.map.ensures.walk 5 token.CloseBrace _ 0 c.in_err-i-in-OpenBrace.was c.map.new.out)).stored
 
-pub core-close-requires-in-OpenBrace-clause-ready : goal.core-close-requires-in-OpenBrace-clause-ready
-core-close-requires-in-OpenBrace-clause-ready t c =
-    let k = is_map t (goal.at.core-close-requires-in-OpenBrace-clause-ready t c).In-OpenBrace in
-    close_ready _ _ _ _ c.requires _ (map_reach _ _ (below_far _ _)) (over_token _ _ c.requires (some_token k)) c.enter-in-OpenBrace.ensures c.map.ensures.walk c.in_ok-i-in-OpenBrace.was _ c.map.ensures.stored
+pub nested-close-requires-in-OpenBrace-clause-ready : goal.nested-close-requires-in-OpenBrace-clause-ready
+nested-close-requires-in-OpenBrace-clause-ready t c =
+    let k = is_map t (goal.at.nested-close-requires-in-OpenBrace-clause-ready t c).In-OpenBrace in
+    close_ready _ _ _ _ c.requires.ready _ (map_reach _ _ (below_far _ _)) (over_token _ _ c.requires.ready (some_token k)) c.enter-in-OpenBrace.ensures c.map.ensures.walk c.in_ok-i-in-OpenBrace.was _ c.map.ensures.stored
 
-pub core-close-requires-in-OpenBrace-clause-begun : goal.core-close-requires-in-OpenBrace-clause-begun
-core-close-requires-in-OpenBrace-clause-begun t c =
-    let k = is_map t (goal.at.core-close-requires-in-OpenBrace-clause-begun t c).In-OpenBrace in
-    close_opens _ _ _ _ c.requires _ (map_reach _ _ (below_far _ _)) (over_token _ _ c.requires (some_token k)) c.enter-in-OpenBrace.ensures c.map.ensures.walk c.in_ok-i-in-OpenBrace.was _ c.map.ensures.stored kind.Map _ _ 0 (starts _ c.args.w c.requires _ _ c.begin-in-OpenBrace.ensures) (token_long _ c.args.w c.requires (some_token k)) (omega arith)
+pub nested-close-requires-in-OpenBrace-clause-begun : goal.nested-close-requires-in-OpenBrace-clause-begun
+nested-close-requires-in-OpenBrace-clause-begun t c =
+    let k = is_map t (goal.at.nested-close-requires-in-OpenBrace-clause-begun t c).In-OpenBrace in
+    close_opens _ _ _ _ c.requires.ready _ (map_reach _ _ (below_far _ _)) (over_token _ _ c.requires.ready (some_token k)) c.enter-in-OpenBrace.ensures c.map.ensures.walk c.in_ok-i-in-OpenBrace.was _ c.map.ensures.stored kind.Map _ _ 0 (starts _ c.args.w c.requires.ready _ _ c.begin-in-OpenBrace.ensures) (token_long _ c.args.w c.requires.ready (some_token k)) (omega arith)
 
-pub core-returns-in_ok-i-in-OpenBrace-clause-walk : goal.core-returns-in_ok-i-in-OpenBrace-clause-walk
+pub nested-returns-in_ok-i-in-OpenBrace-clause-walk : goal.nested-returns-in_ok-i-in-OpenBrace-clause-walk
 unfolding map_at
-core-returns-in_ok-i-in-OpenBrace-clause-walk t c =
-    let k = is_map t (goal.at.core-returns-in_ok-i-in-OpenBrace-clause-walk t c).In-OpenBrace in
-    (core_by _ _ _ _ _ _ _ 4 (token_code _ c.args.w c.requires token.OpenBrace k) (container_yes _ _ _ _ c.requires _ (map_reach _ _ (below_far _ _)) (over_token _ _ c.requires (some_token k)) c.enter-in-OpenBrace.ensures c.map.ensures.walk c.in_ok-i-in-OpenBrace.was _ c.map.ensures.stored kind.Map token.CloseBrace _ 0 _ (starts _ c.args.w c.requires _ kind.Map c.begin-in-OpenBrace.ensures) _ _ c.close-in-OpenBrace.ensures.walk c.close-in-OpenBrace.ensures.stored)).walk
+nested-returns-in_ok-i-in-OpenBrace-clause-walk t c =
+    let k = is_map t (goal.at.nested-returns-in_ok-i-in-OpenBrace-clause-walk t c).In-OpenBrace in
+    (core_by _ _ _ _ _ _ _ 4 (token_code _ c.args.w c.requires.ready token.OpenBrace k) (container_yes _ _ _ _ c.requires.ready _ (map_reach _ _ (below_far _ _)) (over_token _ _ c.requires.ready (some_token k)) c.enter-in-OpenBrace.ensures c.map.ensures.walk c.in_ok-i-in-OpenBrace.was _ c.map.ensures.stored kind.Map token.CloseBrace _ 0 _ (starts _ c.args.w c.requires.ready _ kind.Map c.begin-in-OpenBrace.ensures) _ _ c.close-in-OpenBrace.ensures.walk c.close-in-OpenBrace.ensures.stored)).walk
 
-pub core-returns-in_ok-i-in-OpenBrace-clause-stored : goal.core-returns-in_ok-i-in-OpenBrace-clause-stored
+pub nested-returns-in_ok-i-in-OpenBrace-clause-stored : goal.nested-returns-in_ok-i-in-OpenBrace-clause-stored
 unfolding map_at
-core-returns-in_ok-i-in-OpenBrace-clause-stored t c =
-    let k = is_map t (goal.at.core-returns-in_ok-i-in-OpenBrace-clause-stored t c).In-OpenBrace in
-    (core_by _ _ _ _ _ _ _ 4 (token_code _ c.args.w c.requires token.OpenBrace k) (container_yes _ _ _ _ c.requires _ (map_reach _ _ (below_far _ _)) (over_token _ _ c.requires (some_token k)) c.enter-in-OpenBrace.ensures c.map.ensures.walk c.in_ok-i-in-OpenBrace.was _ c.map.ensures.stored kind.Map token.CloseBrace _ 0 _ (starts _ c.args.w c.requires _ kind.Map c.begin-in-OpenBrace.ensures) _ _ c.close-in-OpenBrace.ensures.walk c.close-in-OpenBrace.ensures.stored)).stored
+nested-returns-in_ok-i-in-OpenBrace-clause-stored t c =
+    let k = is_map t (goal.at.nested-returns-in_ok-i-in-OpenBrace-clause-stored t c).In-OpenBrace in
+    (core_by _ _ _ _ _ _ _ 4 (token_code _ c.args.w c.requires.ready token.OpenBrace k) (container_yes _ _ _ _ c.requires.ready _ (map_reach _ _ (below_far _ _)) (over_token _ _ c.requires.ready (some_token k)) c.enter-in-OpenBrace.ensures c.map.ensures.walk c.in_ok-i-in-OpenBrace.was _ c.map.ensures.stored kind.Map token.CloseBrace _ 0 _ (starts _ c.args.w c.requires.ready _ kind.Map c.begin-in-OpenBrace.ensures) _ _ c.close-in-OpenBrace.ensures.walk c.close-in-OpenBrace.ensures.stored)).stored
 
-pub core-returns-in-DoubleQuotedString-clause-walk : goal.core-returns-in-DoubleQuotedString-clause-walk
+pub nested-returns-in-DoubleQuotedString-clause-walk : goal.nested-returns-in-DoubleQuotedString-clause-walk
 unfolding strings
-core-returns-in-DoubleQuotedString-clause-walk t c =
+nested-returns-in-DoubleQuotedString-clause-walk t c =
     let there : c.args.w.cursor.peeked.kind ≡ Some c.in-Some.kind = sym c.kind.ensures ∙ c.in-Some.is in
-    ⊎_elim (λ e. (core_by _ _ _ _ _ _ _ 12 (token_code _ c.args.w c.requires token.DoubleQuotedString (there ∙ ap Some e)) (record { walk = c.string.ensures.walk; stored = c.string.ensures.stored })).walk)
-    (⊎_elim (λ e. (core_by _ _ _ _ _ _ _ 13 (token_code _ c.args.w c.requires token.SingleQuotedString (there ∙ ap Some e)) (record { walk = c.string.ensures.walk; stored = c.string.ensures.stored })).walk)
-    (⊎_elim (λ e. (core_by _ _ _ _ _ _ _ 14 (token_code _ c.args.w c.requires token.MultilineBasicString (there ∙ ap Some e)) (record { walk = c.string.ensures.walk; stored = c.string.ensures.stored })).walk)
-    (λ e. (core_by _ _ _ _ _ _ _ 15 (token_code _ c.args.w c.requires token.MultilineLiteralString (there ∙ ap Some e)) (record { walk = c.string.ensures.walk; stored = c.string.ensures.stored })).walk))) c.in-DoubleQuotedString.is
+    ⊎_elim (λ e. (core_by _ _ _ _ _ _ _ 12 (token_code _ c.args.w c.requires.ready token.DoubleQuotedString (there ∙ ap Some e)) (record { walk = c.string.ensures.walk; stored = c.string.ensures.stored })).walk)
+    (⊎_elim (λ e. (core_by _ _ _ _ _ _ _ 13 (token_code _ c.args.w c.requires.ready token.SingleQuotedString (there ∙ ap Some e)) (record { walk = c.string.ensures.walk; stored = c.string.ensures.stored })).walk)
+    (⊎_elim (λ e. (core_by _ _ _ _ _ _ _ 14 (token_code _ c.args.w c.requires.ready token.MultilineBasicString (there ∙ ap Some e)) (record { walk = c.string.ensures.walk; stored = c.string.ensures.stored })).walk)
+    (λ e. (core_by _ _ _ _ _ _ _ 15 (token_code _ c.args.w c.requires.ready token.MultilineLiteralString (there ∙ ap Some e)) (record { walk = c.string.ensures.walk; stored = c.string.ensures.stored })).walk))) c.in-DoubleQuotedString.is
 
-pub core-returns-in-DoubleQuotedString-clause-stored : goal.core-returns-in-DoubleQuotedString-clause-stored
+pub nested-returns-in-DoubleQuotedString-clause-stored : goal.nested-returns-in-DoubleQuotedString-clause-stored
 unfolding strings
-core-returns-in-DoubleQuotedString-clause-stored t c =
+nested-returns-in-DoubleQuotedString-clause-stored t c =
     let there : c.args.w.cursor.peeked.kind ≡ Some c.in-Some.kind = sym c.kind.ensures ∙ c.in-Some.is in
-    ⊎_elim (λ e. (core_by _ _ _ _ _ _ _ 12 (token_code _ c.args.w c.requires token.DoubleQuotedString (there ∙ ap Some e)) (record { walk = c.string.ensures.walk; stored = c.string.ensures.stored })).stored)
-    (⊎_elim (λ e. (core_by _ _ _ _ _ _ _ 13 (token_code _ c.args.w c.requires token.SingleQuotedString (there ∙ ap Some e)) (record { walk = c.string.ensures.walk; stored = c.string.ensures.stored })).stored)
-    (⊎_elim (λ e. (core_by _ _ _ _ _ _ _ 14 (token_code _ c.args.w c.requires token.MultilineBasicString (there ∙ ap Some e)) (record { walk = c.string.ensures.walk; stored = c.string.ensures.stored })).stored)
-    (λ e. (core_by _ _ _ _ _ _ _ 15 (token_code _ c.args.w c.requires token.MultilineLiteralString (there ∙ ap Some e)) (record { walk = c.string.ensures.walk; stored = c.string.ensures.stored })).stored))) c.in-DoubleQuotedString.is
+    ⊎_elim (λ e. (core_by _ _ _ _ _ _ _ 12 (token_code _ c.args.w c.requires.ready token.DoubleQuotedString (there ∙ ap Some e)) (record { walk = c.string.ensures.walk; stored = c.string.ensures.stored })).stored)
+    (⊎_elim (λ e. (core_by _ _ _ _ _ _ _ 13 (token_code _ c.args.w c.requires.ready token.SingleQuotedString (there ∙ ap Some e)) (record { walk = c.string.ensures.walk; stored = c.string.ensures.stored })).stored)
+    (⊎_elim (λ e. (core_by _ _ _ _ _ _ _ 14 (token_code _ c.args.w c.requires.ready token.MultilineBasicString (there ∙ ap Some e)) (record { walk = c.string.ensures.walk; stored = c.string.ensures.stored })).stored)
+    (λ e. (core_by _ _ _ _ _ _ _ 15 (token_code _ c.args.w c.requires.ready token.MultilineLiteralString (there ∙ ap Some e)) (record { walk = c.string.ensures.walk; stored = c.string.ensures.stored })).stored))) c.in-DoubleQuotedString.is
 
-pub core-returns-in_default-clause-walk : goal.core-returns-in_default-clause-walk
-core-returns-in_default-clause-walk t c =
-    (end_reads _ _ c.args.out.now _ c.requires _ _ c.no_value.ensures (sym c.kind.ensures ∙ c.in_default.is)).walk
+pub nested-returns-in_default-clause-walk : goal.nested-returns-in_default-clause-walk
+nested-returns-in_default-clause-walk t c =
+    (end_reads _ _ c.args.out.now _ c.requires.ready _ _ c.no_value.ensures (sym c.kind.ensures ∙ c.in_default.is)).walk
 
-pub core-returns-in_default-kind-clause-walk : goal.core-returns-in_default-kind-clause-walk
-core-returns-in_default-kind-clause-walk t c =
+pub nested-returns-in_default-kind-clause-walk : goal.nested-returns-in_default-kind-clause-walk
+nested-returns-in_default-kind-clause-walk t c =
     let n = c.in_default-kind in
-    (none_reads _ _ c.args.out.now _ c.requires _ _ c.no_value-in_default-kind.ensures c.in-Some.kind (sym c.kind.ensures ∙ c.in-Some.is) n.not-Identifier n.not-Number n.not-OpenList n.not-OpenBrace n.not-DoubleQuotedString n.not-SingleQuotedString n.not-MultilineBasicString n.not-MultilineLiteralString).walk
+    (none_reads _ _ c.args.out.now _ c.requires.ready _ _ c.no_value-in_default-kind.ensures c.in-Some.kind (sym c.kind.ensures ∙ c.in-Some.is) (λ e. c.requires.no_name (sym c.kind.ensures ∙ c.in-Some.is ∙ ap Some e)) (λ e. c.requires.no_number (sym c.kind.ensures ∙ c.in-Some.is ∙ ap Some e)) n.not-OpenList n.not-OpenBrace n.not-DoubleQuotedString n.not-SingleQuotedString n.not-MultilineBasicString n.not-MultilineLiteralString).walk
 
-pub core-returns-in_default-clause-stored : goal.core-returns-in_default-clause-stored
-core-returns-in_default-clause-stored t c =
-    (end_reads _ c.args.old.now _ c.args.w c.requires _ _ c.no_value.ensures (sym c.kind.ensures ∙ c.in_default.is)).stored
+pub nested-returns-in_default-clause-stored : goal.nested-returns-in_default-clause-stored
+nested-returns-in_default-clause-stored t c =
+    (end_reads _ c.args.old.now _ c.args.w c.requires.ready _ _ c.no_value.ensures (sym c.kind.ensures ∙ c.in_default.is)).stored
 
-pub core-returns-in_default-kind-clause-stored : goal.core-returns-in_default-kind-clause-stored
-core-returns-in_default-kind-clause-stored t c =
+pub nested-returns-in_default-kind-clause-stored : goal.nested-returns-in_default-kind-clause-stored
+nested-returns-in_default-kind-clause-stored t c =
     let n = c.in_default-kind in
-    (none_reads _ c.args.old.now _ c.args.w c.requires _ _ c.no_value-in_default-kind.ensures c.in-Some.kind (sym c.kind.ensures ∙ c.in-Some.is) n.not-Identifier n.not-Number n.not-OpenList n.not-OpenBrace n.not-DoubleQuotedString n.not-SingleQuotedString n.not-MultilineBasicString n.not-MultilineLiteralString).stored
+    (none_reads _ c.args.old.now _ c.args.w c.requires.ready _ _ c.no_value-in_default-kind.ensures c.in-Some.kind (sym c.kind.ensures ∙ c.in-Some.is) (λ e. c.requires.no_name (sym c.kind.ensures ∙ c.in-Some.is ∙ ap Some e)) (λ e. c.requires.no_number (sym c.kind.ensures ∙ c.in-Some.is ∙ ap Some e)) n.not-OpenList n.not-OpenBrace n.not-DoubleQuotedString n.not-SingleQuotedString n.not-MultilineBasicString n.not-MultilineLiteralString).stored

@@ -5,25 +5,28 @@ use Rattle.eon_parse.proofs.Pass.{Inv}
 use Rattle.eon_parse.proofs.readers.+reading.Given as goal
 
 abbrev pub decreases-core : goal.decreases-core
-decreases-core l = 6 * l.depth + 5
+decreases-core l = 7 * l.depth + 6
+
+abbrev pub decreases-nested : goal.decreases-nested
+decreases-nested l = 7 * l.depth + 5
 
 abbrev pub decreases-string : goal.decreases-string
-decreases-string l = 6 * l.depth + 4
+decreases-string l = 7 * l.depth + 4
 
 abbrev pub decreases-list : goal.decreases-list
-decreases-list l = 6 * l.depth + 3
+decreases-list l = 7 * l.depth + 3
 
 abbrev pub decreases-map : goal.decreases-map
-decreases-map l = 6 * l.depth + 3
+decreases-map l = 7 * l.depth + 3
 
 abbrev pub decreases-one : goal.decreases-one
-decreases-one l = 6 * l.depth + 2
+decreases-one l = 7 * l.depth + 2
 
 abbrev pub decreases-two : goal.decreases-two
-decreases-two l = 6 * l.depth + 2
+decreases-two l = 7 * l.depth + 2
 
 abbrev pub decreases-value : goal.decreases-value
-decreases-value l = 6 * l.depth
+decreases-value l = 7 * l.depth
 
 abbrev pub invariant-list-loop-out : goal.invariant-list-loop-out
 invariant-list-loop-out l = Inv l.text l.old (stops l.text) (one l.text (below l.depth l.text)) (page l.initial.d l.initial.out) (page l.d l.out)
