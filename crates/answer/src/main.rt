@@ -13,6 +13,9 @@ use std::io::{BufRead, BufReader, BufWriter, Write};
 // How much is read at once, and kept back before it is written.
 const BUFFER_BYTES: usize = 65536;
 
+// No verb takes more: what stands behind them is one word more, however long, so that a line of blanks takes no memory of its own.
+const MOST_WORDS: usize = 7;
+
 // A line is answered by its words, parted by one blank each.
 fn answer<'a>(
     alloc: Global,
@@ -22,7 +25,7 @@ fn answer<'a>(
     if line.len() > LINE_BYTES {
         return Ok(Err(Fault::BadLine));
     }
-    let words: Vec<&[u8]> = line.split(|b| *b == b' ').collect(alloc)?;
+    let words: Vec<&[u8]> = line.splitn(MOST_WORDS + 1, |b| *b == b' ').collect(alloc)?;
     Ok(desk.answer(words.as_slice()))
 }
 
